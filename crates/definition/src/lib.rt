@@ -1,0 +1,49 @@
+// The records that the definition speaks of: what a public call returns, the build parameters, and one answer of a search.
+
+ghost use mathlib.Core.Path.{_≡_};
+ghost use Rattle.definition.specs.Defaults.{defaults};
+
+// What every public call returns: its number, and the fields that it fills.
+pub struct Answer {
+    pub number: u32,
+    pub count: usize,
+    pub id: u32,
+    pub draw: u32,
+    pub distance: f32,
+}
+
+// The build parameters.
+pub struct Params {
+    pub degree: usize,
+    pub beam: usize,
+    pub alpha: f32,
+    pub extra: usize,
+}
+
+// The four defaults of 000.
+impl Params {
+    pub const DEGREE: usize = 64;
+
+    pub const BEAM: usize = 128;
+
+    pub const ALPHA: f32 = 1.2;
+
+    pub const EXTRA: usize = 1;
+
+    pub fn defaults() -> Self
+        ensures { λ r. ⌜ r ≡ defaults ⌝ }
+    {
+        Self {
+            degree: Self::DEGREE,
+            beam: Self::BEAM,
+            alpha: Self::ALPHA,
+            extra: Self::EXTRA,
+        }
+    }
+}
+
+// One answer of a search.
+pub struct Candidate {
+    pub id: u32,
+    pub distance: f32,
+}
