@@ -4,6 +4,7 @@ ghost use mathlib.Core.Path.{_≡_};
 ghost use Rattle.definition.specs.Defaults.{defaults};
 
 // What every public call returns: its number, and the fields that it fills.
+#[repr(C)]
 pub struct Answer {
     pub number: u32,
     pub count: usize,
@@ -13,6 +14,7 @@ pub struct Answer {
 }
 
 // The build parameters.
+#[repr(C)]
 pub struct Params {
     pub degree: usize,
     pub beam: usize,
@@ -43,6 +45,7 @@ impl Params {
 }
 
 // One answer of a search.
+#[repr(C)]
 pub struct Candidate {
     pub id: u32,
     pub distance: f32,
