@@ -1,0 +1,34 @@
+-- A slice that is filled with one value from the front: after i stores it is that value i times, and then as it was.
+use mathlib.Core.Path.{_≡_, refl, sym, ap, _∙_}
+use mathlib.Core.List.{List, [], _∷_, _++_, append-nil}
+use Prim.Native.Nat.{ℕ, zero, suc, _+_, _≤_, _<_}
+use native.Mathlib.Omega.{arith}
+use native.Mathlib.Numerals.{add-one}
+use lib.ListN.{length, set, drop, replicate, length-set, drop-of-length-le}
+
+module _ {A : Type 0} (v : A) where
+  pub record Filled (old s : List A) (i : ℕ) : Type 0 where
+    pub within : i ≤ length old
+    pub size : length s ≡ length old
+    pub is : s ≡ replicate i v ++ drop i old
+
+  pub fill-start : (old : List A) → Filled old old 0
+  fill-start old = record { within = omega arith; size = refl; is = refl }
+
+  fill-suc : (n : ℕ) (d : List A) → n < length d → set (replicate n v ++ drop n d) n v ≡ replicate (suc n) v ++ drop (suc n) d
+  fill-suc n [] l = absurd (omega arith)
+  fill-suc zero (x ∷ d) l = refl
+  fill-suc (suc n) (x ∷ d) l = ap (λ (t : List A). v ∷ t) (fill-suc n d (omega arith))
+
+  pub fill-more : (old s : List A) (i : ℕ) → i < length old → Filled old s i → Filled old (set s i v) (i + 1)
+  fill-more old s i h f =
+      record {
+        within = omega arith;
+        size = length-set s i v ∙ f .size;
+        is = ap (λ (l : List A). set l i v) (f .is) ∙ fill-suc i old h ∙ ap (λ (k : ℕ). replicate k v ++ drop k old) (sym (add-one i));
+      }
+
+  pub fill-end : (old s : List A) (i : ℕ) → length old ≤ i → Filled old s i → s ≡ replicate (length old) v
+  fill-end old s i h f =
+      let q : i ≡ length old = omega (arith, f .within) in
+      f .is ∙ rw (drop-of-length-le old {i = i} h, append-nil, q) refl

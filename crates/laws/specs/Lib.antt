@@ -1,0 +1,22 @@
+-- Laws of lists, orders, tables and slices over the definition's small functions: nothing about searches, pruning or calls. Each fact stands once.
+--   Truth     tests as facts                                   Tables     tables row by row, ids and padding
+--   Members   what is in a list                                Parts      parts of a slice that are lent and come back
+--   Apart     lists in which nothing stands twice              Filled     a slice filled with one value from the front
+--   Sorting   `place` and `sort` over any order                Backwards  a list from its end to its front
+--   Rising    `rising` depends only on which ids there are     Words      the search rule, as the code reads a row
+--   Items     the orders of items, ids, the best of a beam     Writing    a slice written from its front
+--   Draws     a draw below m is below m                        Remainders numbers less than m apart differ modulo m
+pub mod Truth
+pub mod Members
+pub mod Apart
+pub mod Sorting
+pub mod Rising
+pub mod Items
+pub mod Tables
+pub mod Parts
+pub mod Filled
+pub mod Backwards
+pub mod Words
+pub mod Writing
+pub mod Draws
+pub mod Remainders

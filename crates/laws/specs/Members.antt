@@ -1,0 +1,268 @@
+-- What is in a list: the tests and functions of the definition's Lists, by membership. `X-mem` tells what is in an X, `mem-X` puts something in it.
+use Prim.Native.Nat.{ℕ, zero, suc, _+_, _*_, _≤_, _<_, zero-le}
+use native.Mathlib.Nat.{eq-or-lt-of-le, zero-mul, suc-mul}
+use native.Mathlib.Omega.{arith}
+use mathlib.Core.Path.{_≡_, refl, sym, ap, ap₂, _∙_, subst}
+use mathlib.Core.Logic.{_⊎_, inl, inr}
+use mathlib.Core.Bool.{Bool, true, false, cond, false≢true}
+use mathlib.Core.List.{List, [], _∷_, _++_, map, List·Memᴰ as Mem, List·Memᴰ·head as here, List·Memᴰ·tail as there}
+use mathlib.Core.List.{List·Memᴰ·not-nil as not-nil, List·Memᴰ·cases-cons as cases, Memᴰ·append-left as in-front, Memᴰ·append-right as in-back}
+use mathlib.Core.List.{List·Memᴰ·append-cases as split}
+use borrow.Author.Tests.{eqb-true, eq-eqb, ne-eqb}
+use lib.Dec.{eqb}
+use lib.ListN.{length, take, drop, getD, replicate, length-append, length-drop, take-append-drop}
+use lib.Seq.{take-at, drop-at}
+use Rattle.definition.specs.Lists.{each, keep, joined, run, upto, isIn, distinct, groups}
+use Rattle.laws.specs.Truth.{either, branch, and-both, both-and, or-either, either-or, is-false, not-both}
+
+-- the same members
+pub record Same {A : Type 0} (xs ys : List A) : Type 0 where
+  pub to : (z : A) → Mem z xs → Mem z ys
+  pub from : (z : A) → Mem z ys → Mem z xs
+
+-- ---- lists of anything
+
+module _ {A : Type 0} where
+  pub mem-length : {x : A} {ys : List A} → Mem x ys → 0 < length ys
+  mem-length (here e) = omega arith
+  mem-length (there m) = omega arith
+
+  -- what all of a list have, and one more, all of the longer list have
+  pub cons-elim : (P : A → Type 0) (x : A) (xs : List A) → P x → ((z : A) → Mem z xs → P z) → (z : A) → Mem z (x ∷ xs) → P z
+  cons-elim P x xs p f z m = go (cases m)
+    where
+      go : (z ≡ x) ⊎ Mem z xs → P z
+      go (inl e) = subst P (sym e) p
+      go (inr h) = f z h
+
+  pub append-elim : (P : A → Type 0) (xs ys : List A) → ((z : A) → Mem z xs → P z) → ((z : A) → Mem z ys → P z) → (z : A) → Mem z (xs ++ ys) → P z
+  append-elim P xs ys f g z m = go (split xs m)
+    where
+      go : Mem z xs ⊎ Mem z ys → P z
+      go (inl h) = f z h
+      go (inr h) = g z h
+
+  pub snoc-elim : (P : A → Type 0) (xs : List A) (x : A) → ((z : A) → Mem z xs → P z) → P x → (z : A) → Mem z (xs ++ (x ∷ [])) → P z
+  snoc-elim P xs x f p = append-elim P xs (x ∷ []) f (cons-elim P x [] p (λ z m. absurd (not-nil m)))
+
+  pub take-mem : (k : ℕ) (xs : List A) {z : A} → Mem z (take k xs) → Mem z xs
+  take-mem k xs {z} m = subst (λ (l : List A). Mem z l) (take-append-drop k xs) (in-front (drop k xs) m)
+
+  pub drop-mem : (k : ℕ) (xs : List A) {z : A} → Mem z (drop k xs) → Mem z xs
+  drop-mem k xs {z} m = subst (λ (l : List A). Mem z l) (take-append-drop k xs) (in-back (take k xs) m)
+
+  pub replicate-mem : (k : ℕ) (x : A) {z : A} → Mem z (replicate k x) → z ≡ x
+  replicate-mem zero x m = absurd (not-nil m)
+  replicate-mem (suc k) x {z} m = cons-elim (λ u. u ≡ x) x (replicate k x) refl (λ u h. replicate-mem k x h) z m
+
+  -- ---- each
+
+  pub each-mem : (p : A → Bool) (xs : List A) → each p xs ≡ true → (z : A) → Mem z xs → p z ≡ true
+  unfolding each
+  each-mem p [] t z m = absurd (not-nil m)
+  each-mem p (x ∷ xs) t z m =
+      let b = and-both (p x) (each p xs) t in
+      cons-elim (λ z. p z ≡ true) x xs (b .0) (each-mem p xs (b .1)) z m
+
+  pub mem-each : (p : A → Bool) (xs : List A) → ((z : A) → Mem z xs → p z ≡ true) → each p xs ≡ true
+  unfolding each
+  mem-each p [] f = refl
+  mem-each p (x ∷ xs) f = both-and (p x) (each p xs) (f x (here refl)) (mem-each p xs (λ z m. f z (there m)))
+
+  -- ---- keep
+
+  module _ (p : A → Bool) where
+    pub keep-mem : (xs : List A) {z : A} → Mem z (keep p xs) → Mem z xs × (p z ≡ true)
+    unfolding keep
+    keep-mem [] m = absurd (not-nil m)
+    keep-mem (x ∷ xs) {z} m₀ =
+        let old : (u : A) → Mem u (keep p xs) → Mem u (x ∷ xs) × (p u ≡ true) = λ u h. (there (keep-mem xs h .0), keep-mem xs h .1) in
+        (branch (λ (l : List A). Mem z l → Mem z (x ∷ xs) × (p z ≡ true)) (p x)
+        (λ e m. cons-elim (λ u. Mem u (x ∷ xs) × (p u ≡ true)) x (keep p xs) (here refl, e) old z m) (λ e m. old z m)) m₀
+
+    pub mem-keep : (xs : List A) {z : A} → Mem z xs → p z ≡ true → Mem z (keep p xs)
+    unfolding keep
+    mem-keep [] m e = absurd (not-nil m)
+    mem-keep (x ∷ xs) {z} m e =
+        branch (λ (l : List A). Mem z l) (p x)
+        (λ t. cons-elim (λ u. p u ≡ true → Mem u (x ∷ keep p xs)) x xs (λ q. here refl) (λ u h q. there (mem-keep xs h q)) z m e)
+        (λ f. cons-elim (λ u. p u ≡ true → Mem u (keep p xs)) x xs (λ q. absurd (not-both f q)) (λ u h q. mem-keep xs h q) z m e)
+
+    pub keep-append : (xs ys : List A) → keep p (xs ++ ys) ≡ keep p xs ++ keep p ys
+    unfolding keep
+    keep-append [] ys = refl
+    keep-append (x ∷ xs) ys = go (p x) (keep-append xs ys)
+      where
+        go : (b : Bool) → keep p (xs ++ ys) ≡ keep p xs ++ keep p ys
+            → cond b (x ∷ keep p (xs ++ ys)) (keep p (xs ++ ys)) ≡ cond b (x ∷ keep p xs) (keep p xs) ++ keep p ys
+        go true e = ap (λ (l : List A). x ∷ l) e
+        go false e = e
+
+    pub keep-all : (xs : List A) → ((z : A) → Mem z xs → p z ≡ true) → keep p xs ≡ xs
+    unfolding keep
+    keep-all [] f = refl
+    keep-all (x ∷ xs) f = rw (f x (here refl)) (ap (λ (l : List A). x ∷ l) (keep-all xs (λ z m. f z (there m))))
+
+    pub keep-none : (xs : List A) → ((z : A) → Mem z xs → p z ≡ false) → keep p xs ≡ []
+    unfolding keep
+    keep-none [] f = refl
+    keep-none (x ∷ xs) f = rw (f x (here refl)) (keep-none xs (λ z m. f z (there m)))
+
+    pub keep-length : (xs : List A) → length (keep p xs) ≤ length xs
+    unfolding keep
+    keep-length [] = zero-le
+    keep-length (x ∷ xs) =
+        let le = keep-length xs in
+        either (λ (l : List A). length l ≤ suc (length xs)) (p x) (omega arith) (omega arith)
+
+    -- what loses nothing is the same
+    pub keep-full : (xs : List A) → length (keep p xs) ≡ length xs → keep p xs ≡ xs
+    unfolding keep
+    keep-full [] h = refl
+    keep-full (x ∷ xs) h₀ =
+        (branch (λ (l : List A). length l ≡ suc (length xs) → l ≡ x ∷ xs) (p x) (λ e h. ap (λ (l : List A). x ∷ l) (keep-full xs (omega arith)))
+        (λ e h. let le = keep-length xs in absurd (omega arith))) h₀
+
+-- ---- lists one after another
+
+module _ {A : Type 0} where
+  pub joined-mem : (ls : List (List A)) {z : A} → Mem z (joined ls) → (l : List A) × Mem l ls × Mem z l
+  unfolding joined
+  joined-mem [] m = absurd (not-nil m)
+  joined-mem (l ∷ ls) {z} m =
+      append-elim (λ u. (k : List A) × Mem k (l ∷ ls) × Mem u k) l (joined ls) (λ u h. (l, here refl, h))
+      (λ u h. let r = joined-mem ls h in (r .0, there (r .1), r .2)) z m
+
+  pub mem-joined : (ls : List (List A)) {l : List A} {z : A} → Mem l ls → Mem z l → Mem z (joined ls)
+  unfolding joined
+  mem-joined [] m h = absurd (not-nil m)
+  mem-joined (k ∷ ls) {l} {z} m h =
+      cons-elim (λ u. Mem z u → Mem z (k ++ joined ls)) k ls (λ i. in-front (joined ls) i) (λ u j i. in-back k (mem-joined ls j i)) l m h
+
+-- ---- isIn
+
+pub isIn-mem : (x : ℕ) (ys : List ℕ) → isIn x ys ≡ true → Mem x ys
+unfolding isIn
+isIn-mem x [] e = absurd (false≢true e)
+isIn-mem x (y ∷ ys) e = go (or-either (eqb x y) (isIn x ys) e) (λ h. isIn-mem x ys h)
+  where
+    go : (eqb x y ≡ true) ⊎ (isIn x ys ≡ true) → (isIn x ys ≡ true → Mem x ys) → Mem x (y ∷ ys)
+    go (inl d) ih = here (eqb-true x y d)
+    go (inr h) ih = there (ih h)
+
+pub mem-isIn : (x : ℕ) (ys : List ℕ) → Mem x ys → isIn x ys ≡ true
+unfolding isIn
+mem-isIn x [] m = absurd (not-nil m)
+mem-isIn x (y ∷ ys) m = either-or (eqb x y) (isIn x ys) (go (cases m) (λ h. mem-isIn x ys h))
+  where
+    go : (x ≡ y) ⊎ Mem x ys → (Mem x ys → isIn x ys ≡ true) → (eqb x y ≡ true) ⊎ (isIn x ys ≡ true)
+    go (inl e) ih = inl (eq-eqb x y e)
+    go (inr h) ih = inr (ih h)
+
+pub isIn-none : (x : ℕ) (ys : List ℕ) → isIn x ys ≡ false → ¬ Mem x ys
+isIn-none x ys e m = not-both e (mem-isIn x ys m)
+
+pub none-isIn : (x : ℕ) (ys : List ℕ) → ¬ Mem x ys → isIn x ys ≡ false
+none-isIn x ys n = is-false (isIn x ys) (λ e. n (isIn-mem x ys e))
+
+-- ---- runs of numbers
+
+pub run-mem : (s k : ℕ) {z : ℕ} → Mem z (run s k) → (s ≤ z) × (z < s + k)
+unfolding run
+run-mem s zero m = absurd (not-nil m)
+run-mem s (suc k) {z} m =
+    cons-elim (λ u. (s ≤ u) × (u < s + suc k)) s (run (suc s) k) (omega arith, omega arith)
+    (λ u h. let b = run-mem (suc s) k h in (omega arith, omega arith)) z m
+
+pub mem-run : (s k z : ℕ) → s ≤ z → z < s + k → Mem z (run s k)
+unfolding run
+mem-run s zero z lo hi = absurd (omega arith)
+mem-run s (suc k) z lo hi = go (eq-or-lt-of-le lo) (λ l. mem-run (suc s) k z l (omega arith))
+  where
+    go : (s ≡ z) ⊎ (s < z) → (s < z → Mem z (run (suc s) k)) → Mem z (s ∷ run (suc s) k)
+    go (inl e) ih = here (sym e)
+    go (inr l) ih = there (ih l)
+
+-- a test that holds along a run holds at each number of it
+pub each-run : (p : ℕ → Bool) (s k z : ℕ) → each p (run s k) ≡ true → s ≤ z → z < s + k → p z ≡ true
+each-run p s k z t lo hi = each-mem p (run s k) t z (mem-run s k z lo hi)
+
+pub length-run : (s k : ℕ) → length (run s k) ≡ k
+unfolding run
+length-run s zero = refl
+length-run s (suc k) = ap suc (length-run (suc s) k)
+
+pub length-upto : (n : ℕ) → length (upto n) ≡ n
+unfolding upto
+length-upto n = length-run 0 n
+
+pub run-at : (s k i : ℕ) → i < k → getD (run s k) i 0 ≡ s + i
+unfolding run
+run-at s zero i h = absurd (omega arith)
+run-at s (suc k) zero h = omega arith
+run-at s (suc k) (suc i) h = run-at (suc s) k i (omega arith) ∙ omega arith
+
+-- two functions that agree along a run
+pub run-same : {A : Type 0} (f g : ℕ → A) (s k : ℕ) → ((i : ℕ) → s ≤ i → i < s + k → f i ≡ g i) → map f (run s k) ≡ map g (run s k)
+unfolding run
+run-same f g s zero h = refl
+run-same {A} f g s (suc k) h =
+    ap₂ (λ (x : A) (xs : List A). x ∷ xs) (h s (omega arith) (omega arith)) (run-same f g (suc s) k (λ i lo hi. h i (omega arith) (omega arith)))
+
+-- ---- groups
+
+pub groups-mem : (k g : ℕ) (xs : List ℕ) {l : List ℕ} {z : ℕ} → Mem l (groups k g xs) → Mem z l → Mem z xs
+unfolding groups
+groups-mem zero g xs m h = absurd (not-nil m)
+groups-mem (suc k) g xs {l} {z} m h =
+    cons-elim (λ u. Mem z u → Mem z xs) (take g xs) (groups k g (drop g xs)) (λ i. take-mem g xs i)
+    (λ u j i. drop-mem g xs (groups-mem k g (drop g xs) j i)) l m h
+
+-- lists of one length, one after another: how many words, and that the groups are these lists
+pub length-joined : {A : Type 0} (g : ℕ) (ls : List (List A)) → ((l : List A) → Mem l ls → length l ≡ g) → length (joined ls) ≡ length ls * g
+unfolding joined
+length-joined g [] f = sym (zero-mul g)
+length-joined g (l ∷ ls) f =
+    let a = length-append l (joined ls) in
+    let b = f l (here refl) in
+    let c = length-joined g ls (λ k m. f k (there m)) in
+    let d = suc-mul (length ls) g in
+    omega arith
+
+pub groups-joined : (g : ℕ) (ls : List (List ℕ)) → ((l : List ℕ) → Mem l ls → length l ≡ g) → groups (length ls) g (joined ls) ≡ ls
+unfolding groups joined
+groups-joined g [] f = refl
+groups-joined g (l ∷ ls) f =
+    rw (take-at l (joined ls) g (f l (here refl)), drop-at l (joined ls) g (f l (here refl)))
+    (ap (λ (k : List (List ℕ)). l ∷ k) (groups-joined g ls (λ k m. f k (there m))))
+
+-- where the groups take up the whole list, each of it is in a group
+pub mem-groups : (k g : ℕ) (xs : List ℕ) → length xs ≡ k * g → {z : ℕ} → Mem z xs → (l : List ℕ) × Mem l (groups k g xs) × Mem z l
+unfolding groups
+mem-groups zero g [] h m = absurd (not-nil m)
+mem-groups zero g (x ∷ xs) h m = let z = zero-mul g in absurd (omega arith)
+mem-groups (suc k) g xs h {z} m =
+    let s = suc-mul k g in
+    let d = length-drop g xs in
+    append-elim (λ u. (l : List ℕ) × Mem l (take g xs ∷ groups k g (drop g xs)) × Mem u l) (take g xs) (drop g xs) (λ u i. (take g xs, here refl, i))
+    (λ u i. let r = mem-groups k g (drop g xs) (omega arith) i in (r .0, there (r .1), r .2)) z
+    (subst (λ (l : List ℕ). Mem z l) (sym (take-append-drop g xs)) m)
+
+-- ---- by places
+
+pub each-at : (p : ℕ → Bool) (xs : List ℕ) → ((k : ℕ) → k < length xs → p (getD xs k 0) ≡ true) → each p xs ≡ true
+unfolding each
+each-at p [] f = refl
+each-at p (x ∷ xs) f = rw (f 0 (omega arith)) (each-at p xs (λ k h. f (suc k) (omega arith)))
+
+absent-at : (x : ℕ) (xs : List ℕ) → ((k : ℕ) → k < length xs → x ≡ getD xs k 0 → ⊥) → isIn x xs ≡ false
+unfolding isIn
+absent-at x [] f = refl
+absent-at x (y ∷ ys) f = rw (ne-eqb x y (f 0 (omega arith))) (absent-at x ys (λ k h. f (suc k) (omega arith)))
+
+pub distinct-at : (xs : List ℕ) → ((a b : ℕ) → a < length xs → b < length xs → getD xs a 0 ≡ getD xs b 0 → a ≡ b) → distinct xs ≡ true
+unfolding distinct
+distinct-at [] f = refl
+distinct-at (x ∷ xs) f =
+    let no : isIn x xs ≡ false = absent-at x xs (λ k h e. let q : 0 ≡ suc k = f 0 (suc k) (omega arith) (omega arith) e in omega arith) in
+    rw no (distinct-at xs (λ a b ha hb e. let q : suc a ≡ suc b = f (suc a) (suc b) (omega arith) (omega arith) e in omega arith))

@@ -1,0 +1,27 @@
+-- What is proved of the definition. Since the code is proved equal to the definition, what is proved here holds of the code.
+--   Outcomes   two outcomes meeting one statement are equal, for every public call
+--   Kept, Rule, Rows        demand 3, first sentence: what rows are; that the test of 8 says so; that every call leaves them so
+--   Pruned, Rounds, Slack   what pruning leaves; its rounds end; the slack in whole numbers
+--   Tells, Searching, Ends  demand 3, second sentence: what answers tell and exclude; of every accepted search; a greedy search ends
+--   Metrics, Medoid         what a distance is; the medoid's score
+--   Drawn                   what is drawn is acceptable
+--   Accepted, Numbers       what an accepted call has; a check that is passed is not the number returned
+-- The folders build, search and draws hold what these are proved from.
+pub mod Slack
+pub mod Rounds
+pub mod Outcomes
+pub mod Metrics
+pub mod Medoid
+pub mod Kept
+pub mod Rule
+pub mod Pruned
+pub mod Tells
+pub mod Ends
+pub mod Accepted
+pub mod Numbers
+pub mod Searching
+pub mod Rows
+pub mod Drawn
+pub mod build
+pub mod search
+pub mod draws

@@ -1,0 +1,130 @@
+-- The test of refusal 8, `buildRule`, says exactly the build rule, both ways. And what a table that keeps the rule is made of.
+-- n < pad: 2 lets no other n pass.
+use Prim.Native.Nat.{ℕ, _-_, _*_, _≤_, _<_, zero-le}
+use native.Mathlib.Omega.{arith}
+use mathlib.Core.Path.{_≡_, refl, sym, ap, _∙_, subst}
+use mathlib.Core.Bool.{true, not, _&&_}
+use mathlib.Core.List.{List, _++_, map, List·Memᴰ as Mem, Memᴰ·of-map as of-map}
+use borrow.Author.Tests.{ltb-true, lt-ltb, not-true}
+use lib.Dec.{ltb}
+use lib.ListN.{length, drop, replicate}
+use lib.Seq.{drop-at}
+use Rattle.definition.specs.Lists.{each, upto, isIn, distinct}
+use Rattle.definition.specs.Tables.{pad, row, ids, padded, tableOf, onlyPad, idsFirst, buildRow, buildRule}
+use Rattle.laws.specs.Truth.{and-both, both-and, is-not}
+use Rattle.laws.specs.Members.{each-mem, mem-each, run-mem, mem-run, replicate-mem, joined-mem, append-elim, isIn-none, none-isIn}
+use Rattle.laws.specs.Apart.{Apart, distinct-apart, apart-distinct, apart-nodup, nodup-apart}
+use Rattle.laws.specs.Tables.{row-length, row-mem, table-length, row-tableOf, tableOf-row, length-padded, pad-only, ids-of, ids-few, ids-split}
+use Rattle.promises.specs.Kept.{RowKept, TableKept}
+
+-- ids for the row of `own`
+pub record Fit (n own : ℕ) (xs : List ℕ) : Type 0 where
+  pub below : (x : ℕ) → Mem x xs → x < n
+  pub notOwn : ¬ Mem own xs
+  pub once : Apart xs
+
+-- ---- one row
+
+pub padded-kept : (n width own : ℕ) (xs : List ℕ) → Fit n own xs → length xs ≤ width → RowKept n width own (padded width xs)
+unfolding padded
+padded-kept n width own xs f h = record { ids = xs; split = refl; most = h; below = f .below; notOwn = f .notOwn; once = apart-nodup (f .once) }
+
+kept-length : (n width own : ℕ) (words : List ℕ) → RowKept n width own words → length words ≡ width
+unfolding padded
+kept-length n width own words k = ap (λ (l : List ℕ). length l) (k .split) ∙ length-padded width (k .ids) (k .most)
+
+module _ (n width own : ℕ) (words : List ℕ) (low : n < pad) where
+  kept-ids : (k : RowKept n width own words) → ids words ≡ k .ids
+  kept-ids k = ap (λ (l : List ℕ). ids l) (k .split) ∙ ids-of (k .ids) (width - length (k .ids)) (λ x m e. let h = k .below x m in omega arith)
+
+  pub kept-fit : RowKept n width own words → Fit n own (ids words)
+  kept-fit k =
+      subst (λ (l : List ℕ). Fit n own l) (sym (kept-ids k)) (record { below = k .below; notOwn = k .notOwn; once = nodup-apart (k .once) })
+
+  pub kept-few : RowKept n width own words → length (ids words) ≤ width
+  kept-few k = subst (λ (l : List ℕ). length l ≤ width) (sym (kept-ids k)) (k .most)
+
+  row-kept : length words ≡ width → buildRow n own words ≡ true → RowKept n width own words
+  unfolding buildRow
+  row-kept size t =
+      let first = idsFirst words in
+      let once = distinct (ids words) in
+      let below = each (λ w. ltb w n) (ids words) in
+      let own-out = not (isIn own (ids words)) in
+      let p = and-both (first && once && below) own-out t in
+      let q = and-both (first && once) below (p .0) in
+      let r = and-both first once (q .0) in
+      record {
+        ids = ids words;
+        split = ids-split words (r .0) ∙ ap (λ (s : ℕ). ids words ++ replicate (s - length (ids words)) pad) size;
+        most = subst (λ (s : ℕ). length (ids words) ≤ s) size (ids-few words);
+        below = λ x m. ltb-true x n (each-mem (λ w. ltb w n) (ids words) (q .1) x m);
+        notOwn = isIn-none own (ids words) (not-true (isIn own (ids words)) (p .1));
+        once = apart-nodup (distinct-apart (ids words) (r .1));
+      }
+
+  row-ruled : RowKept n width own words → buildRow n own words ≡ true
+  unfolding buildRow idsFirst
+  row-ruled k =
+      let first = idsFirst words in
+      let once = distinct (ids words) in
+      let below = each (λ w. ltb w n) (ids words) in
+      let own-out = not (isIn own (ids words)) in
+      let f = kept-fit k in
+      both-and (first && once && below) own-out
+      (both-and (first && once) below
+      (both-and first once (subst (λ (l : List ℕ). onlyPad l ≡ true) (sym tail) (pad-only (width - length (k .ids)))) (apart-distinct (f .once)))
+      (mem-each (λ w. ltb w n) (ids words) (λ x m. lt-ltb x n (f .below x m))))
+      (is-not (isIn own (ids words)) (none-isIn own (ids words) (f .notOwn)))
+    where
+      tail : drop (length (ids words)) words ≡ replicate (width - length (k .ids)) pad
+      tail =
+          ap (λ (l : List ℕ). drop (length (ids words)) l) (k .split)
+          ∙ drop-at (k .ids) (replicate (width - length (k .ids)) pad) (length (ids words)) (ap (λ (l : List ℕ). length l) (sym (kept-ids k)))
+
+-- ---- the table: both ways
+
+pub rule-kept : (n width : ℕ) (table : List ℕ) → n < pad → length table ≡ n * width → buildRule n width table ≡ true → TableKept n width table
+unfolding buildRule upto
+rule-kept n width table low size t =
+    record {
+      size = size;
+      rows = λ i h. row-kept n width i (row width table i) low (row-length n width table size i h)
+          (each-mem (λ i. buildRow n i (row width table i)) (upto n) t i (mem-run 0 n i zero-le (omega arith)));
+    }
+
+pub kept-rule : (n width : ℕ) (table : List ℕ) → n < pad → TableKept n width table → buildRule n width table ≡ true
+unfolding buildRule upto
+kept-rule n width table low k =
+    mem-each (λ i. buildRow n i (row width table i)) (upto n)
+    (λ i m. let b = run-mem 0 n m in row-ruled n width i (row width table i) low (k .rows i (omega arith)))
+
+-- ---- made row by row
+
+pub kept-table : (n width : ℕ) (rows : ℕ → List ℕ) → ((i : ℕ) → i < n → RowKept n width i (rows i)) → TableKept n width (tableOf n rows)
+kept-table n width rows k =
+    let wide : (i : ℕ) → i < n → length (rows i) ≡ width = λ i h. kept-length n width i (rows i) (k i h) in
+    record {
+      size = table-length n width rows wide;
+      rows = λ i h. subst (λ (l : List ℕ). RowKept n width i l) (sym (row-tableOf n width rows wide i h)) (k i h);
+    }
+
+-- ---- what stands in it is padding or an id below n
+
+kept-word : (n width own : ℕ) (words : List ℕ) → RowKept n width own words → (w : ℕ) → Mem w words → ¬ (w ≡ pad) → w < n
+kept-word n width own words k w m =
+    append-elim (λ u. ¬ (u ≡ pad) → u < n) (k .ids) (replicate (width - length (k .ids)) pad) (λ u h e. k .below u h)
+    (λ u h e. absurd (e (replicate-mem (width - length (k .ids)) pad h))) w (subst (λ (l : List ℕ). Mem w l) (k .split) m)
+
+pub kept-entry : (n width : ℕ) (table : List ℕ) → TableKept n width table → (w : ℕ) → Mem w table → ¬ (w ≡ pad) → w < n
+unfolding tableOf upto
+kept-entry n width table k w m h =
+    let u = subst (λ (l : List ℕ). Mem w l) (sym (tableOf-row n width table (k .size))) m in
+    let r = joined-mem (map (row width table) (upto n)) u in
+    let s = of-map (row width table) (upto n) (r .1) in
+    let b = run-mem 0 n (s .1) in
+    kept-word n width (s .0) (row width table (s .0)) (k .rows (s .0) (omega arith)) w (subst (λ (l : List ℕ). Mem w l) (sym (s .2)) (r .2)) h
+
+-- so in every row, also of those beyond n, which are empty
+pub kept-words : (n width : ℕ) (table : List ℕ) → TableKept n width table → (i w : ℕ) → Mem w (row width table i) → ¬ (w ≡ pad) → w < n
+kept-words n width table k i w m h = kept-entry n width table k w (row-mem width table i m) h

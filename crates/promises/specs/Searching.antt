@@ -1,0 +1,99 @@
+-- Demand 3, second sentence: what the answers of a search tell, and what they exclude. For every accepted search, with a run of records or not, and every
+-- accepted text of `seek` (Accepted says which those are), for every k: as many answers are asked for as min(k, max(beam, 1)).
+-- "Answers by distance, then id, cut to k." Each has its own distance and is below n; they stand in strict order.
+use Prim.Native.Nat.{ℕ, _-_, _≤_, _<_, max, min}
+use native.Mathlib.Omega.{arith}
+use mathlib.Core.Path.{_≡_, refl, sym, subst}
+use mathlib.Core.Logic.{_≢_, _⊎_, inl, inr}
+use mathlib.Core.Bool.{true, _||_}
+use mathlib.Core.List.{List, Pairwise, List·Memᴰ as Mem}
+use borrow.Author.Tests.{ltb-true, eqb-true}
+use lib.Dec.{ltb, eqb}
+use lib.ListN.{length, getD, take}
+use Rattle.definition.specs.Lists.{sort}
+use Rattle.definition.specs.Tables.{pad, row, searchRule}
+use Rattle.definition.specs.Metric.{fromQuery}
+use Rattle.definition.specs.Beam.{Item, nobody, best}
+use Rattle.definition.specs.Greedy.{State, greedy}
+use Rattle.definition.specs.Search.{listedFirst, ranked, searched, answers}
+use Rattle.definition.specs.Refusals.{SearchCall, searchNumber}
+use Rattle.definition.specs.Outcome.{found, foundIds}
+use Rattle.laws.specs.Truth.{or-either}
+use Rattle.laws.specs.Members.{each-mem, take-mem}
+use Rattle.laws.specs.Sorting.{Ordered, sort-mem, take-ordered, ordered-pairwise}
+use Rattle.laws.specs.Tables.{row-mem}
+use Rattle.laws.specs.Items.{idsOf}
+use Rattle.promises.specs.Tells.{SearchTells, Excludes}
+use Rattle.promises.specs.Accepted.{SearchAccepted, search-accepted}
+use Rattle.promises.specs.search.Ground.{Ground}
+use Rattle.promises.specs.search.Stopped.{listed, tells, excludes}
+use Rattle.promises.specs.Ends.{greedy-done, greedy-keeps}
+
+-- the distance of the last answer; 0 where there is none, which is only so with k = 0
+abbrev pub lastDistance : SearchCall → ℕ
+lastDistance c = getD (found c) (length (found c) - 1) nobody .dist
+
+-- the rows of a table under the search rule
+row-good : (n degree : ℕ) (table : List ℕ) → searchRule n table ≡ true → (i w : ℕ) → i < n → Mem w (row degree table i) → w ≢ pad → w < n
+unfolding searchRule
+row-good n degree table rule i w below m no-pad =
+    go (or-either (eqb w pad) (ltb w n) (each-mem (λ u. eqb u pad || ltb u n) table rule w (row-mem degree table i m)))
+  where
+    go : (eqb w pad ≡ true) ⊎ (ltb w n ≡ true) → w < n
+    go (inl e) = absurd (no-pad (eqb-true w pad e))
+    go (inr t) = ltb-true w n t
+
+module _ (c : SearchCall) (a : SearchAccepted c) where
+  -- what the call's search goes by
+  abbrev ground : Ground
+  ground =
+      record {
+        d = fromQuery (c .dim) (c .vectors) (c .query);
+        rows = row (c .degree) (c .table);
+        n = c .n;
+        beam = max (c .beam) 1;
+        start = c .start;
+        starts = a .starts;
+        good = row-good (c .n) (c .degree) (c .table) (a .ruled);
+      }
+
+  open Ground ground using (d, rows, beam)
+
+  abbrev end : State
+  end = greedy d rows (c .n) beam (c .start)
+
+  found-is : found c ≡ take (c .k) (sort listedFirst (end .work))
+  unfolding found answers ranked searched
+  found-is = refl
+
+  pub search-tells : SearchTells (row (c .degree) (c .table)) (fromQuery (c .dim) (c .vectors) (c .query)) (c .start) (min (c .k) (max (c .beam) 1))
+      (foundIds c) (lastDistance c)
+  unfolding foundIds best
+  search-tells =
+      subst (λ (l : List Item). SearchTells rows d (c .start) (min (c .k) beam) (idsOf l) (best l .dist)) (sym found-is)
+      (tells ground end (greedy-done ground) (c .k))
+
+  pub search-excludes : Excludes (row (c .degree) (c .table)) (fromQuery (c .dim) (c .vectors) (c .query)) (c .start) (foundIds c) (lastDistance c)
+  unfolding foundIds best
+  search-excludes =
+      subst (λ (l : List Item). Excludes rows d (c .start) (idsOf l) (best l .dist)) (sym found-is) (excludes ground end (greedy-done ground) (c .k))
+
+  pub search-answers : (x : Item) → Mem x (found c) → (x .dist ≡ fromQuery (c .dim) (c .vectors) (c .query) (x .id)) × (x .id < c .n)
+  search-answers x m =
+      let k = greedy-keeps ground in
+      let sorted = sort listedFirst (end .work) in
+      let in-visited = k .holding .seen x (sort-mem listedFirst (end .work) (take-mem (c .k) sorted (subst (λ (l : List Item). Mem x l) found-is m))) in
+      (k .seen .own x in-visited, k .seen .below x in-visited)
+
+  pub search-ordered : Pairwise (λ (x y : Item). listedFirst x y ≡ true) (found c)
+  search-ordered =
+      ordered-pairwise
+      (subst (λ (l : List Item). Ordered listedFirst l) (sym found-is)
+      (take-ordered (c .k) (sort listedFirst (end .work)) (listed ground end (greedy-done ground))))
+
+-- where k is at least the beam, a beam of 0 read as 1, the beam's number is asked for
+pub search-claim : (c : SearchCall) → searchNumber c ≡ 0 → max (c .beam) 1 ≤ c .k
+    → SearchTells (row (c .degree) (c .table)) (fromQuery (c .dim) (c .vectors) (c .query)) (c .start) (max (c .beam) 1) (foundIds c) (lastDistance c)
+search-claim c e enough =
+    subst (λ (b : ℕ). SearchTells (row (c .degree) (c .table)) (fromQuery (c .dim) (c .vectors) (c .query)) (c .start) b (foundIds c) (lastDistance c))
+    (omega arith) (search-tells c (search-accepted c e))
