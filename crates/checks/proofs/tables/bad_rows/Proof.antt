@@ -1,0 +1,98 @@
+-- `bad_rows` meets its contract.
+use mathlib.Core.Path.{sym}
+use Prim.Native.Nat.{ℕ, _-_}
+use native.Mathlib.Omega.{arith}
+use lib.ListN.{length-replicate}
+use borrow.Author.Needs.{needs}
+use Rattle.checks.specs.Lengths.{part-fits}
+use Rattle.checks.specs.Marks.{blank}
+use Rattle.checks.specs.Rows.{Rowed, rows-start, row-ready, rows-bad, rows-more, rows-end}
+use Rattle.checks.proofs.tables.bad_rows.Statement.{statement}
+use Rattle.checks.proofs.tables.bad_rows.Tie as tie
+
+abbrev Inv-loop : tie.InvT-loop
+Inv-loop n width table marks₀ i₀ marks i = Rowed n width table i marks
+
+abbrev μ-loop : tie.MeasureT-loop
+μ-loop n width table marks₀ i₀ marks i = n - i
+
+loop-holds : tie.Need-loop-holds Inv-loop μ-loop
+loop-holds c = rows-start _ _ _ _ (length-replicate {A = ℕ} 65536 0) (blank 65536)
+
+mul-a : tie.Need-mul-a Inv-loop μ-loop
+mul-a c =
+    let s = c .before .before .before in
+    let f = part-fits (s .args .width) (s .args .n) (c .before .loop .i) (c .loop-test .taken) in search needs
+
+add-e : tie.Need-add-e Inv-loop μ-loop
+add-e c =
+    let s = c .before .before .before in
+    let f = part-fits (s .args .width) (s .args .n) (c .before .loop .i) (c .loop-test .taken) in search needs
+
+slice-aggregate-bad-row : tie.Need-slice-aggregate-bad-row Inv-loop μ-loop
+slice-aggregate-bad-row c = sym (c .before .before .loop .inv .room)
+
+mul-bad-row : tie.Need-mul-bad-row Inv-loop μ-loop
+mul-bad-row c =
+    let s = c .before .before .before .before in
+    let f = part-fits (s .args .width) (s .args .n) (c .before .before .loop .i) (c .before .loop-test .taken) in search needs
+
+sub-bad-row : tie.Need-sub-bad-row Inv-loop μ-loop
+sub-bad-row c =
+    let s = c .before .before .before .before in
+    let f = part-fits (s .args .width) (s .args .n) (c .before .before .loop .i) (c .before .loop-test .taken) in search needs
+
+part-bad-row-start : tie.Need-part-bad-row-start Inv-loop μ-loop
+part-bad-row-start c =
+    let s = c .before .before .before .before in
+    let f = part-fits (s .args .width) (s .args .n) (c .before .before .loop .i) (c .before .loop-test .taken) in search needs
+
+part-bad-row-end : tie.Need-part-bad-row-end Inv-loop μ-loop
+part-bad-row-end c =
+    let s = c .before .before .before .before in
+    let f = part-fits (s .args .width) (s .args .n) (c .before .before .loop .i) (c .before .loop-test .taken) in search needs
+
+bad-row-requires : tie.Need-bad-row-requires Inv-loop μ-loop
+bad-row-requires c κs =
+    let s = c .before .before .before in let t = s .before .before in
+    row-ready (t .args .n) (t .args .width) (t .args .table .now) (s .loop .i) (s .loop .marks) (s .loop .inv) (c .before .before .loop-test .taken) (t .pre .0) (t .pre .1) (t .pre .2)
+
+returns : tie.Need-returns Inv-loop μ-loop
+returns c =
+    let s = c .before .before .before .before .before .before in let t = s .before .before in
+    rows-bad (t .args .n) (t .args .width) (t .args .table .now) (s .loop .i) (s .loop .marks) (s .loop .inv) (c .before .before .before .before .before .loop-test .taken) _ _ (c .before .before .bad-row .ensures) (c .if1 .taken)
+
+add-i : tie.Need-add-i Inv-loop μ-loop
+add-i c = search needs
+
+loop-less : tie.Need-loop-less Inv-loop μ-loop
+loop-less c = omega arith
+
+loop-again : tie.Need-loop-again Inv-loop μ-loop
+loop-again c =
+    let s = c .before .before in let t = s .before .before .before .before in let u = t .before .before in
+    rows-more (u .args .n) (u .args .width) (u .args .table .now) (t .loop .i) (t .loop .marks) (t .loop .inv) (c .before .before .before .before .before .loop-test .taken) _ _ (s .bad-row .ensures) (c .if1 .left) (s .bad-row .kept .1 .1 .0)
+
+returns-2 : tie.Need-returns-2 Inv-loop μ-loop
+returns-2 c = rows-end _ _ _ _ _ (c .before .loop .inv) (c .loop-test .left)
+
+pub bad-rows-spec : {M : Type 1} → statement M
+bad-rows-spec =
+    tie.close
+    (tie.spec
+    Inv-loop
+    μ-loop
+    loop-holds
+    mul-a
+    add-e
+    slice-aggregate-bad-row
+    mul-bad-row
+    sub-bad-row
+    part-bad-row-start
+    part-bad-row-end
+    bad-row-requires
+    returns
+    add-i
+    loop-less
+    loop-again
+    returns-2)

@@ -1,0 +1,131 @@
+// 8: the search rule and the build rule.
+
+use super::limits::bad_length;
+use super::limits::slack;
+use super::sets::repeats;
+ghost use mathlib.Core.Path.{_≡_};
+ghost use mathlib.Core.Bool.{not};
+ghost use Prim.Native.Nat.{_*_, _≤_};
+ghost use lib.ListN.{length};
+ghost use Rattle.definition.specs.Tables.{ids, onlyPad, searchRule, buildRule};
+ghost use Rattle.definition.specs.Refusals.{badSearched, badTable};
+ghost use Rattle.definition.specs.Slack.{slack};
+ghost use Rattle.checks.specs.Rows.{RowReady, RowTested};
+
+// Whether a word is neither padding nor an id. One more than padding wraps to 0, so one comparison of a word settles both;
+// there is no way out of the loop, so that it is done on several words at once.
+pub fn has_foreign(n: usize, words: &[u32]) -> bool
+    requires { ⌜ n ≤ 65536 ⌝ }
+    ensures { λ r. ⌜ r ≡ not (searchRule n (now (words .entry))) ⌝ }
+{
+    let most = n as u32;
+    let mut found = false;
+    let mut i = 0;
+    while i < words.len() {
+        let up = std::num::wrapping_add_u32(words[i], 1);
+        if most < up {
+            found = true;
+        }
+        i += 1;
+    }
+    found
+}
+
+// A table that is searched: one pass over it.
+pub fn bad_searched(n: usize, degree: usize, table: &[u32]) -> bool
+    requires { ⌜ (n ≤ 65536) × (degree ≤ 64) ⌝ }
+    ensures { λ r. ⌜ r ≡ badSearched n degree (now (table .entry)) ⌝ }
+{
+    if bad_length(n, degree, table.len()) {
+        return true;
+    }
+    has_foreign(n, table)
+}
+
+// How many words are no padding.
+pub fn count_ids(words: &[u32]) -> usize
+    requires { ⌜ length (now words) ≤ 128 ⌝ }
+    ensures { λ r. ⌜ (r ≡ length (ids (now (words .entry)))) × (r ≤ length (now (words .entry))) ⌝ }
+{
+    let mut count: u32 = 0;
+    let mut i = 0;
+    while i < words.len() {
+        if words[i] != 0xFFFFFFFF {
+            count += 1;
+        }
+        i += 1;
+    }
+    count as usize
+}
+
+// Whether every word is padding.
+pub fn only_padding(words: &[u32]) -> bool
+    ensures { λ r. ⌜ r ≡ onlyPad (now (words .entry)) ⌝ }
+{
+    let mut found = false;
+    let mut i = 0;
+    while i < words.len() {
+        if words[i] != 0xFFFFFFFF {
+            found = true;
+        }
+        i += 1;
+    }
+    !found
+}
+
+// Whether the row of `own` breaks the build rule. No mark exceeds `own` before, so own + 1 is a fresh stamp; with own marked
+// first, a row that names it is one with a repeat.
+fn bad_row(n: usize, own: usize, marks: &mut [u32], words: &[u32]) -> bool
+    requires { ⌜ RowReady n own (now marks) (now words) ⌝ }
+    ensures { λ r. ⌜ RowTested n own (now (words .entry)) r (now (marks .exit)) ⌝ }
+{
+    if has_foreign(n, words) {
+        return true;
+    }
+    let count = count_ids(words);
+    if !only_padding(&words[count..]) {
+        return true;
+    }
+    let next = own + 1;
+    let stamp = next as u32;
+    marks[own] = stamp;
+    repeats(marks, stamp, &words[0..count])
+}
+
+// Whether a row breaks the build rule: one pass over the table.
+fn bad_rows(n: usize, width: usize, table: &[u32]) -> bool
+    requires { ⌜ (n ≤ 65536) × (width ≤ 128) × (length (now table) ≡ n * width) ⌝ }
+    ensures { λ r. ⌜ r ≡ not (buildRule n width (now (table .entry))) ⌝ }
+{
+    let mut marks = [0u32; 65536];
+    let mut i = 0;
+    while i < n {
+        let a = i * width;
+        let e = a + width;
+        if bad_row(n, i, &mut marks, &table[a..e]) {
+            return true;
+        }
+        i += 1;
+    }
+    false
+}
+
+// A table that is read under the build rule.
+pub fn bad_table(n: usize, width: usize, table: &[u32]) -> bool
+    requires { ⌜ (n ≤ 65536) × (width ≤ 128) ⌝ }
+    ensures { λ r. ⌜ r ≡ badTable n width (now (table .entry)) ⌝ }
+{
+    if bad_length(n, width, table.len()) {
+        return true;
+    }
+    bad_rows(n, width, table)
+}
+
+// A wide table, by the degree: its rows have slack(degree) words.
+pub fn bad_wide(n: usize, degree: usize, table: &[u32]) -> bool
+    requires { ⌜ (n ≤ 65536) × (degree ≤ 64) ⌝ }
+    ensures { λ r. ⌜ r ≡ badTable n (slack degree) (now (table .entry)) ⌝ }
+{
+    let width = slack(degree);
+    bad_table(n, width, table)
+}
