@@ -119,9 +119,12 @@ pub worse-dist : (x y : Item) → worse x y ≡ true → y .dist ≤ x .dist
 unfolding worse
 worse-dist x y e = nearer-dist y x e
 
+pub strictly-nearer : (x y : Item) → x .dist < y .dist → nearer x y ≡ true
+strictly-nearer x y h = is-nearer x y (inl h)
+
 pub nearer-worse : (x y : Item) → x .dist < y .dist → worse y x ≡ true
 unfolding worse
-nearer-worse x y h = is-nearer x y (inl h)
+nearer-worse x y h = strictly-nearer x y h
 
 -- the answers' order, which the definition says once more
 listed-is : (x y : Item) → listedFirst x y ≡ nearer x y
