@@ -6,7 +6,7 @@ use Prim.Native.Nat.{ℕ, _+_, _-_, _≤_, _<_}
 use native.Mathlib.Numerals.{add-one}
 use native.Mathlib.Omega.{arith}
 use lib.ListN.{length, take, drop, set, length-append, length-set, take-append-drop}
-use lib.Seq.{take-suc-set, append-snoc, drop-set-lt, drop-drop, length-take-le, take-at, drop-length}
+use lib.Seq.{take-suc-set, append-snoc, drop-set-lt, drop-drop, length-take-le, take-at, take-all, drop-length}
 use borrow.Rule.Slice.PartMut.{putMid, same-len-mid, mid-len, drop-put}
 use Rattle.definition.specs.Lists.{over}
 
@@ -55,6 +55,10 @@ module _ {A : Type 0} where
       let n : length w ≡ j = ap length (sym t) ∙ length-take-le j out h in
       sym (take-append-drop j out) ∙ ap (λ (l : List A). take j out ++ l) (s .beyond) ∙ ap (λ (l : List A). l ++ drop j o) t ∙ ap
       (λ (m : ℕ). w ++ drop m o) (sym n)
+
+  -- where nothing is left beyond, it is the whole
+  pub all-ends : (w o out : List A) (j : ℕ) → length out ≤ j → Writing w o out j [] → out ≡ w
+  all-ends w o out j h s = sym (take-all j out h) ∙ sym (append-nil (take j out)) ∙ s .whole
 
   -- ---- what was written over the front of a list
 

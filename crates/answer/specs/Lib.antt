@@ -1,0 +1,2 @@
+-- Answers by the number of the first refusal.
+pub mod Numbered

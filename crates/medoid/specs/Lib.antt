@@ -1,0 +1,2 @@
+-- The medoid in code.
+pub mod Turns
