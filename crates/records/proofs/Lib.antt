@@ -1,0 +1,2 @@
+-- A slice lent again for a call.
+pub mod Again

@@ -1,0 +1,204 @@
+// Part 9. Search: the greedy walk with the beam raised to at least 1; answers by distance, then id, cut to k.
+
+use definition::Answer;
+use greedy::Plan;
+ghost use mathlib.Core.Path.{_≡_};
+ghost use Prim.Native.Nat.{_+_, _*_, _≤_, _<_, min, max};
+ghost use lib.ListN.{length};
+ghost use Rattle.definition.specs.Lists.{cleared};
+ghost use Rattle.definition.specs.Floats.{nought};
+ghost use Rattle.definition.specs.Refusals.{searchWords, searchFloats};
+ghost use Rattle.definition.specs.Outcome.{SearchMeets};
+ghost use Rattle.checks.specs.SearchNumber.{callOf, Accepted};
+ghost use Rattle.search.specs.Answering.{Listed, Wiped};
+ghost use Rattle.search.specs.Statement.{outOf, Searched, SearchedBeside};
+
+// At least 1.
+fn raised(beam: usize) -> usize
+    ensures { λ r. ⌜ r ≡ max beam 1 ⌝ }
+{
+    if beam == 0 {
+        return 1;
+    }
+    beam
+}
+
+fn least(a: usize, b: usize) -> usize
+    ensures { λ r. ⌜ r ≡ min a b ⌝ }
+{
+    if a < b {
+        return a;
+    }
+    b
+}
+
+// The best `count` of a beam of `len` items, from its end, over the front of the two outputs.
+fn list_answers(
+    from: &[u32],
+    dfrom: &[f32],
+    len: usize,
+    count: usize,
+    ids: &mut [u32],
+    dists: &mut [f32],
+)
+    requires { ⌜ (count ≤ len) × (len ≤ length (now from)) × (len ≤ length (now dfrom)) ⌝ }
+    requires { ⌜ (count ≤ length (now ids)) × (count ≤ length (now dists)) ⌝ }
+    ensures { λ _. ⌜ Listed (now (from .entry)) (now (dfrom .entry)) len count (now (ids .entry)) (now (dists .entry)) (now (ids .exit)) (now (dists .exit)) ⌝ }
+{
+    let mut i = 0;
+    while i < count {
+        let last = len - 1;
+        let at = last - i;
+        ids[i] = from[at];
+        dists[i] = dfrom[at];
+        i += 1;
+    }
+}
+
+// The stated room becomes zero.
+fn wipe(words: &mut [u32], floats: &mut [f32], n: usize)
+    requires { ⌜ (n ≤ 65536) × (2 * n + 256 ≤ length (now words)) × (n + 256 ≤ length (now floats)) ⌝ }
+    ensures { λ _. ⌜ Wiped n (now (words .entry)) (now (floats .entry)) (now (words .exit)) (now (floats .exit)) ⌝ }
+{
+    let w = 2 * n + 256;
+    let f = n + 256;
+    laws::clear_words(&mut words[0..w]);
+    laws::clear_floats(&mut floats[0..f]);
+}
+
+// A search that no check refuses, for a caller who holds the proof of it: no check is made.
+pub fn search_accepted(
+    n: usize,
+    dim: usize,
+    vectors: &[u8],
+    degree: usize,
+    beam: usize,
+    k: usize,
+    start: u32,
+    table: &[u32],
+    query: &[u8],
+    words: &mut [u32],
+    floats: &mut [f32],
+    ids: &mut [u32],
+    dists: &mut [f32],
+) -> Answer
+    requires { ⌜ Accepted (callOf n dim (now vectors) degree beam k start (now table) (now query) (now words) (now floats) (now ids) (now dists)) ⌝ }
+    ensures { λ r. ⌜ Searched
+        (callOf n dim (now (vectors .entry)) degree beam k start (now (table .entry)) (now (query .entry)) (now (words .entry)) (now (floats .entry)) (now (ids .entry)) (now (dists .entry)))
+        (outOf r (now (words .exit)) (now (floats .exit)) (now (ids .exit)) (now (dists .exit))) ⌝ }
+{
+    let width = raised(beam);
+    let p = Plan {
+        n,
+        dim,
+        width: degree,
+        beam: width,
+        log: 0,
+    };
+    laws::clear_words(&mut words[0..n]);
+    let s = greedy::greedy(words, floats, vectors, query, table, p, 1, start);
+    let len = s.work;
+    let count = least(k, len);
+    let w = 2 * n;
+    let we = w + 256;
+    let fe = n + 256;
+    list_answers(&words[w..we], &floats[n..fe], len, count, ids, dists);
+    wipe(words, floats, n);
+    answer::found(count)
+}
+
+// A search with `run` records beside its two outputs, which it does not write: their number counts in check 10.
+pub fn search_beside(
+    n: usize,
+    dim: usize,
+    vectors: &[u8],
+    degree: usize,
+    beam: usize,
+    k: usize,
+    start: u32,
+    table: &[u32],
+    query: &[u8],
+    words: &mut [u32],
+    floats: &mut [f32],
+    ids: &mut [u32],
+    dists: &mut [f32],
+    run: usize,
+) -> Answer
+    ensures { λ r. ⌜ SearchedBeside
+        (callOf n dim (now (vectors .entry)) degree beam k start (now (table .entry)) (now (query .entry)) (now (words .entry)) (now (floats .entry)) (now (ids .entry)) (now (dists .entry)))
+        run
+        (outOf r (now (words .exit)) (now (floats .exit)) (now (ids .exit)) (now (dists .exit))) ⌝ }
+{
+    let number = checks::numbers::search_number(
+        n,
+        dim,
+        vectors,
+        degree,
+        beam,
+        k,
+        start,
+        table,
+        query,
+        words.len(),
+        floats.len(),
+        ids.len(),
+        dists.len(),
+        run,
+    );
+    if number != 0 {
+        return answer::refused(number);
+    }
+    search_accepted(
+        n,
+        dim,
+        vectors,
+        degree,
+        beam,
+        k,
+        start,
+        table,
+        query,
+        words,
+        floats,
+        ids,
+        dists,
+    )
+}
+
+// The answers of a search in `ids` and `dists`, best first, and how many they are; or the number of the refusal.
+pub fn search(
+    n: usize,
+    dim: usize,
+    vectors: &[u8],
+    degree: usize,
+    beam: usize,
+    k: usize,
+    start: u32,
+    table: &[u32],
+    query: &[u8],
+    words: &mut [u32],
+    floats: &mut [f32],
+    ids: &mut [u32],
+    dists: &mut [f32],
+) -> Answer
+    ensures { λ r. ⌜ SearchMeets
+        (record { n = n; dim = dim; vectors = now (vectors .entry); degree = degree; beam = beam; k = k; start = start; table = now (table .entry); query = now (query .entry); words = now (words .entry); floats = now (floats .entry); ids = now (ids .entry); dists = now (dists .entry) })
+        (record { answer = r; words = now (words .exit); floats = now (floats .exit); ids = now (ids .exit); dists = now (dists .exit) }) ⌝ }
+{
+    search_beside(
+        n,
+        dim,
+        vectors,
+        degree,
+        beam,
+        k,
+        start,
+        table,
+        query,
+        words,
+        floats,
+        ids,
+        dists,
+        k,
+    )
+}

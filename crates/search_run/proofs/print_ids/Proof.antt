@@ -1,0 +1,77 @@
+-- `print_ids`.
+use mathlib.Core.Path.{_≡_, refl, sym, ap, _∙_, subst}
+use mathlib.Core.Logic.{⊎-elim}
+use Prim.Native.Nat.{ℕ, suc, _+_, _-_, _*_, _≤_, _<_}
+use native.Mathlib.Omega.{arith}
+use lib.ListN.{length, getD, set, take, drop, length-set}
+use borrow.Author.Needs.{needs}
+use Rattle.search_run.proofs.print_ids.Statement.{statement}
+use Rattle.search_run.proofs.print_ids.Tie as tie
+use Rattle.search_run.proofs.print_ids.Reads as reads
+use Rattle.search_run.proofs.print_ids.Lts as lts
+use Rattle.search_run.proofs.least.Reads as least-reads
+use Rattle.search_run.proofs.print_number.Reads as print-number-reads
+use Rattle.search_run.proofs.wide.Reads as wide-reads
+
+abbrev Inv-loop : tie.InvT-loop
+Inv-loop ids count end i₀ i = Unit {0}
+
+abbrev μ-loop : tie.MeasureT-loop
+μ-loop ids count end i₀ i = end - i
+
+-- src/main.rt:30:9
+least-requires : tie.Need-least-requires Inv-loop μ-loop
+least-requires c κs = search needs
+
+-- src/main.rt:32:5
+loop-holds : tie.Need-loop-holds Inv-loop μ-loop
+loop-holds c = tt
+
+-- src/main.rt:33:27
+mul-wide : tie.Need-mul-wide Inv-loop μ-loop
+mul-wide c = search needs
+
+-- src/main.rt:33:27
+shared-slice-read-wide : tie.Need-shared-slice-read-wide Inv-loop μ-loop
+shared-slice-read-wide c = search needs
+
+-- src/main.rt:33:22
+wide-requires : tie.Need-wide-requires Inv-loop μ-loop
+wide-requires c κs = search needs
+
+-- src/main.rt:33:9
+print-number-requires : tie.Need-print-number-requires Inv-loop μ-loop
+print-number-requires c κs = search needs
+
+-- src/main.rt:34:9
+add-i : tie.Need-add-i Inv-loop μ-loop
+add-i c = search needs
+
+-- src/main.rt:32:5
+loop-less : tie.Need-loop-less Inv-loop μ-loop
+loop-less c = omega arith
+
+-- src/main.rt:32:5
+loop-again : tie.Need-loop-again Inv-loop μ-loop
+loop-again c = tt
+
+-- src/main.rt:29:1
+returns : tie.Need-returns Inv-loop μ-loop
+returns c = search needs
+
+pub print-ids-spec : {M : Type 1} → statement M
+print-ids-spec =
+    tie.close
+    (tie.spec
+    Inv-loop
+    μ-loop
+    least-requires
+    loop-holds
+    mul-wide
+    shared-slice-read-wide
+    wide-requires
+    print-number-requires
+    add-i
+    loop-less
+    loop-again
+    returns)
