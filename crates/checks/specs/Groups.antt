@@ -1,6 +1,6 @@
 -- The groups of seeds: one group seed by seed, the groups one by one, and their number by a division.
 use mathlib.Core.Path.{_≡_, refl, sym, ap, _∙_}
-use mathlib.Core.Bool.{Bool, true, false, not, _||_, _&&_}
+use mathlib.Core.Bool.{Bool, true, false, not, _||_, _&&_, and-false}
 use mathlib.Core.List.{List, [], _∷_}
 use Prim.Native.Nat.{ℕ, zero, suc, _+_, _-_, _*_, _/_, _%_, _≤_, _<_}
 use native.Mathlib.Numerals.{add-one}
@@ -12,16 +12,18 @@ use lib.ListN.{length, getD, take, drop, drop-of-length-le}
 use lib.Seq.{drop-cons, drop-drop}
 use Rattle.definition.specs.Lists.{each, isIn, distinct, groups}
 use Rattle.definition.specs.Refusals.{badExtra, goodGroup, badSeeds}
-use Rattle.checks.specs.Bools.{and-nothing, not-true, not-false}
-use Rattle.checks.specs.Lengths.{part-is}
+use Rattle.checks.specs.Bools.{not-true, not-false}
+use Rattle.checks.specs.Lent.{part-is}
 
 -- ---- one group, from seed i on
-module _ (n start : ℕ) (group : List ℕ) (i : ℕ) (same : goodGroup n start (drop i group) ≡ goodGroup n start group) (h : i < length group) where
+module _ (n start : ℕ) (group : List ℕ) (i : ℕ)
+    (same : goodGroup n start (drop i group) ≡ goodGroup n start group) (h : i < length group) where
   later : Bool
   later = each (λ s. ltb s n && not (eqb s start)) (drop (i + 1) group)
 
   good-step : goodGroup n start (drop i group)
-      ≡ (((ltb (getD group i 0) n && not (eqb (getD group i 0) start)) && later) && (not (isIn (getD group i 0) (drop (i + 1) group)) && distinct (drop (i + 1) group)))
+      ≡ (((ltb (getD group i 0) n && not (eqb (getD group i 0) start)) && later)
+      && (not (isIn (getD group i 0) (drop (i + 1) group)) && distinct (drop (i + 1) group)))
   unfolding goodGroup each distinct later
   good-step = rw (drop-cons group i 0 h, add-one i) refl
 
@@ -31,13 +33,15 @@ module _ (n start : ℕ) (group : List ℕ) (i : ℕ) (same : goodGroup n start 
   module _ (near : getD group i 0 < n) where
     pub seed-start : getD group i 0 ≡ start → true ≡ not (goodGroup n start group)
     seed-start e =
-        let broken : goodGroup n start (drop i group) ≡ false = good-step ∙ rw (lt-ltb (getD group i 0) n near, eq-eqb (getD group i 0) start e) refl in ap not (sym broken ∙ same)
+        let broken : goodGroup n start (drop i group) ≡ false =
+        good-step ∙ rw (lt-ltb (getD group i 0) n near, eq-eqb (getD group i 0) start e) refl in
+        ap not (sym broken ∙ same)
 
     module _ (other : getD group i 0 ≡ start → ⊥) where
       pub seed-again : isIn (getD group i 0) (drop (i + 1) group) ≡ true → true ≡ not (goodGroup n start group)
       seed-again e =
           let broken : goodGroup n start (drop i group) ≡ false =
-          good-step ∙ rw (lt-ltb (getD group i 0) n near, ne-eqb (getD group i 0) start other, e) (and-nothing later) in
+          good-step ∙ rw (lt-ltb (getD group i 0) n near, ne-eqb (getD group i 0) start other, e) (and-false later) in
           ap not (sym broken ∙ same)
 
       pub seed-good : isIn (getD group i 0) (drop (i + 1) group) ≡ false → goodGroup n start (drop (i + 1) group) ≡ goodGroup n start group
@@ -47,7 +51,8 @@ module _ (n start : ℕ) (group : List ℕ) (i : ℕ) (same : goodGroup n start 
           good-step ∙ rw (lt-ltb (getD group i 0) n near, ne-eqb (getD group i 0) start other, e) refl in
           sym kept ∙ same
 
-pub seeds-end : (n start : ℕ) (group : List ℕ) (i : ℕ) → goodGroup n start (drop i group) ≡ goodGroup n start group → length group ≤ i → false ≡ not (goodGroup n start group)
+pub seeds-end : (n start : ℕ) (group : List ℕ) (i : ℕ) → goodGroup n start (drop i group) ≡ goodGroup n start group → length group ≤ i
+    → false ≡ not (goodGroup n start group)
 unfolding goodGroup each distinct
 seeds-end n start group i same h = let ended : goodGroup n start (drop i group) ≡ true = rw (drop-of-length-le group h) refl in ap not (sym ended ∙ same)
 
@@ -115,9 +120,12 @@ module _ (n extra start count : ℕ) (seeds : List ℕ) where
         product : count * extra ≡ 0
         product = ap (λ (k : ℕ). count * k) z ∙ mul-zero count
 
-        go : (l : List ℕ) → not (eqb (length l) 0) ≡ (badExtra n extra || (not (eqb (length l) (count * extra)) || not (each (goodGroup n start) (groups count extra l))))
+        go : (l : List ℕ) → not (eqb (length l) 0)
+            ≡ (badExtra n extra || (not (eqb (length l) (count * extra)) || not (each (goodGroup n start) (groups count extra l))))
         go [] = rw (limit, product) (ap not (sym (ap (λ (k : ℕ). each (goodGroup n start) (groups count k [])) z ∙ no-seeds n start count)))
-        go (x ∷ xs) = let some : eqb (length (x ∷ xs)) 0 ≡ false = ne-eqb (length (x ∷ xs)) 0 (λ (e : suc (length xs) ≡ 0). omega arith) in rw (limit, product, some) refl
+        go (x ∷ xs) =
+            let some : eqb (length (x ∷ xs)) 0 ≡ false = ne-eqb (length (x ∷ xs)) 0 (λ (e : suc (length xs) ≡ 0). omega arith) in
+            rw (limit, product, some) refl
 
     pub seeds-wrong : (length seeds ≡ count * extra → ⊥) → true ≡ badSeeds n extra start count seeds
     unfolding badSeeds

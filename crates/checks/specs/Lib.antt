@@ -1,6 +1,7 @@
--- The refusal tests: the definition's, their cases as the code meets them, and what a call has that is accepted.
+-- The refusal tests: the definition's, their cases as the code meets them, and what is known where one does not hold.
 pub mod Bools
 pub mod Lengths
+pub mod Lent
 pub mod Good
 pub mod Looked
 pub mod Foreign
@@ -11,8 +12,4 @@ pub mod Apart
 pub mod Marks
 pub mod Rows
 pub mod Groups
-pub mod Fit
 pub mod Numbers
-pub mod SearchNumber
-pub mod BuildNumbers
-pub mod MedoidNumber

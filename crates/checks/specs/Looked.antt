@@ -1,6 +1,6 @@
 -- A loop with no way out that looks for an element which fails a test: `found` after i elements.
 use mathlib.Core.Path.{_≡_, refl, sym, ap, _∙_}
-use mathlib.Core.Bool.{Bool, true, false, not, _||_, _&&_}
+use mathlib.Core.Bool.{Bool, true, false, not, _||_, _&&_, or-true, or-false, Bool·not-not}
 use mathlib.Core.List.{List}
 use Prim.Native.Nat.{ℕ, _+_, _≤_, _<_}
 use native.Mathlib.Numerals.{add-one}
@@ -8,14 +8,13 @@ use native.Mathlib.Omega.{arith}
 use lib.ListN.{length, getD, drop, drop-of-length-le}
 use lib.Seq.{drop-cons}
 use Rattle.definition.specs.Lists.{each}
-use Rattle.checks.specs.Bools.{or-right, or-nothing, not-not}
 
 -- a test of every element from i on is the test of i and of every element after it
-pub each-step : (p : ℕ → Bool) (l : List ℕ) (i : ℕ) → i < length l → each p (drop i l) ≡ (p (getD l i 0) && each p (drop (i + 1) l))
+each-step : (p : ℕ → Bool) (l : List ℕ) (i : ℕ) → i < length l → each p (drop i l) ≡ (p (getD l i 0) && each p (drop (i + 1) l))
 unfolding each
 each-step p l i h = rw (add-one i, drop-cons l i 0 h) refl
 
-pub each-end : (p : ℕ → Bool) (l : List ℕ) (i : ℕ) → length l ≤ i → each p (drop i l) ≡ true
+each-end : (p : ℕ → Bool) (l : List ℕ) (i : ℕ) → length l ≤ i → each p (drop i l) ≡ true
 unfolding each
 each-end p l i h = rw (drop-of-length-le l h) refl
 
@@ -30,7 +29,7 @@ module _ (p : ℕ → Bool) (l : List ℕ) (i : ℕ) (found : Bool) (w : Looked 
   pub look-bad : p (getD l i 0) ≡ false → Looked p l (i + 1) true
   look-bad e =
       let broken : each p (drop i l) ≡ false = each-step p l i h ∙ rw e refl in
-      record { upto = omega arith; same = sym (or-right found) ∙ ap (λ (t : Bool). found || not t) (sym broken) ∙ w .same }
+      record { upto = omega arith; same = sym (or-true found) ∙ ap (λ (t : Bool). found || not t) (sym broken) ∙ w .same }
 
   pub look-good : p (getD l i 0) ≡ true → Looked p l (i + 1) found
   look-good e =
@@ -39,7 +38,7 @@ module _ (p : ℕ → Bool) (l : List ℕ) (i : ℕ) (found : Bool) (w : Looked 
 
 module _ (p : ℕ → Bool) (l : List ℕ) (i : ℕ) (found : Bool) (w : Looked p l i found) (h : length l ≤ i) where
   pub look-end : found ≡ not (each p l)
-  look-end = sym (or-nothing found) ∙ ap (λ (t : Bool). found || not t) (sym (each-end p l i h)) ∙ w .same
+  look-end = sym (or-false found) ∙ ap (λ (t : Bool). found || not t) (sym (each-end p l i h)) ∙ w .same
 
   pub look-none : not found ≡ each p l
-  look-none = ap not look-end ∙ not-not (each p l)
+  look-none = ap not look-end ∙ Bool·not-not (each p l)

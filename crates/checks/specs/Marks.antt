@@ -87,7 +87,8 @@ module _ (marks₀ : List ℕ) (stamp : ℕ) (ids : List ℕ) where
     }
 
     -- it does not
-    pub pass-on : i < length ids → getD ids i 0 < length marks → (getD marks (getD ids i 0) 0 ≡ stamp → ⊥) → Passing marks₀ stamp ids (i + 1) (set marks (getD ids i 0) stamp)
+    pub pass-on : i < length ids → getD ids i 0 < length marks → (getD marks (getD ids i 0) 0 ≡ stamp → ⊥)
+        → Passing marks₀ stamp ids (i + 1) (set marks (getD ids i 0) stamp)
     pass-on h l e = record {
       upto = omega arith;
       size = length-set marks (getD ids i 0) stamp ∙ w .size;
@@ -105,6 +106,9 @@ module _ (marks₀ : List ℕ) (stamp : ℕ) (ids : List ℕ) where
     pub pass-end : length ids ≤ i → Repeats marks₀ stamp ids false marks
     unfolding apart
     pass-end h = record {
-      is = λ seen₀ s. let r = w .reached seen₀ s in let ended : apart (r .seen) (drop i ids) ≡ true = rw (drop-of-length-le ids h) refl in ap not (sym ended ∙ r .same);
+      is = λ seen₀ s.
+          let r = w .reached seen₀ s in
+          let ended : apart (r .seen) (drop i ids) ≡ true = rw (drop-of-length-le ids h) refl in
+          ap not (sym ended ∙ r .same);
       most = w .most;
     }

@@ -1,20 +1,22 @@
 -- The build rule row by row, as the code tests it.
 use mathlib.Core.Path.{_≡_, refl, sym, ap, _∙_}
-use mathlib.Core.Bool.{Bool, true, false, not, _||_, _&&_, cond, false≢true}
+use mathlib.Core.Bool.{Bool, true, false, not, _||_, _&&_, cond, and-true, and-false}
 use mathlib.Core.List.{List, [], _∷_}
 use Prim.Native.Nat.{ℕ, zero, suc, _+_, _-_, _*_, _≤_, _<_, zero-le}
 use native.Mathlib.Numerals.{add-one}
 use native.Mathlib.Omega.{arith}
 use borrow.Author.Tests.{eq-eqb, ne-eqb, eqb-true}
 use lib.Dec.{ltb, eqb}
-use lib.ListN.{length, take, drop, getD, set, length-set, drop-of-length-le}
-use lib.Seq.{drop-cons}
+use lib.ListN.{length, take, drop, getD, set, replicate, length-set, drop-of-length-le}
+use lib.Seq.{drop-cons, take-at}
 use Rattle.definition.specs.Lists.{each, keep, run, upto, isIn, distinct}
 use Rattle.definition.specs.Tables.{pad, row, ids, onlyPad, idsFirst, buildRow, buildRule, searchRule}
 use Rattle.definition.specs.Refusals.{badLength, badTable}
+use Rattle.laws.specs.Tables.{row-fits, ids-split}
 use Rattle.laws.specs.Parts.{part-length}
-use Rattle.checks.specs.Bools.{and-nothing, not-true, not-false}
-use Rattle.checks.specs.Lengths.{wrongLength, part-fits, part-is, rest-is, front-is}
+use Rattle.checks.specs.Bools.{not-true, not-false}
+use Rattle.checks.specs.Lengths.{wrongLength}
+use Rattle.checks.specs.Lent.{part-is, rest-is, front-is}
 use Rattle.checks.specs.Below.{allBelow, below-more}
 use Rattle.checks.specs.Apart.{apart, apart-one}
 use Rattle.checks.specs.Marks.{AtMost, Repeats, fresh, mark-one, mark-most}
@@ -39,47 +41,16 @@ rule-ids n [] = refl
 rule-ids n (w ∷ ws) = go (eqb w pad) (rule-ids n ws)
   where
     go : (t : Bool) → each (λ w. eqb w pad || ltb w n) ws ≡ each (λ u. ltb u n) (keep (λ w. not (eqb w pad)) ws)
-        → ((t || ltb w n) && each (λ w. eqb w pad || ltb w n) ws) ≡ each (λ u. ltb u n) (cond (not t) (w ∷ keep (λ w. not (eqb w pad)) ws) (keep (λ w. not (eqb w pad)) ws))
+        → ((t || ltb w n) && each (λ w. eqb w pad || ltb w n) ws)
+        ≡ each (λ u. ltb u n) (cond (not t) (w ∷ keep (λ w. not (eqb w pad)) ws) (keep (λ w. not (eqb w pad)) ws))
     go true e = e
     go false e = ap (λ (t : Bool). ltb w n && t) e
 
--- where only padding stands from k on, there are at most k ids
-few-ids : (k : ℕ) (ws : List ℕ) → onlyPad (drop k ws) ≡ true → length (ids ws) ≤ k
-unfolding onlyPad ids each keep
-few-ids zero [] e = zero-le
-few-ids zero (w ∷ ws) e = go (eqb w pad) e (λ f. few-ids zero ws f)
-  where
-    go : (t : Bool) → (t && each (λ w. eqb w pad) ws) ≡ true → (each (λ w. eqb w pad) ws ≡ true → length (keep (λ w. not (eqb w pad)) ws) ≤ 0)
-        → length (cond (not t) (w ∷ keep (λ w. not (eqb w pad)) ws) (keep (λ w. not (eqb w pad)) ws)) ≤ 0
-    go true e f = f e
-    go false e f = absurd (false≢true e)
-few-ids (suc k) [] e = zero-le
-few-ids (suc k) (w ∷ ws) e = let h = few-ids k ws e in go (eqb w pad) h
-  where
-    go : (t : Bool) → length (keep (λ w. not (eqb w pad)) ws) ≤ k → length (cond (not t) (w ∷ keep (λ w. not (eqb w pad)) ws) (keep (λ w. not (eqb w pad)) ws)) ≤ suc k
-    go true h = omega arith
-    go false h = omega arith
-
--- so where as many words as there are ids are followed by padding alone, those words are the ids
+-- where the ids come first, they are the first words
 pub ids-are : (ws : List ℕ) → idsFirst ws ≡ true → ids ws ≡ take (length (ids ws)) ws
-unfolding idsFirst ids keep
-ids-are [] e = refl
-ids-are (w ∷ ws) e = go (eqb w pad) e (λ f. ids-are ws f) (λ k f. few-ids k ws f)
-  where
-    rest : List ℕ
-    rest = keep (λ w. not (eqb w pad)) ws
-
-    go : (t : Bool) → onlyPad (drop (length (cond (not t) (w ∷ keep (λ w. not (eqb w pad)) ws) (keep (λ w. not (eqb w pad)) ws))) (w ∷ ws)) ≡ true
-        → (onlyPad (drop (length (keep (λ w. not (eqb w pad)) ws)) ws) ≡ true → keep (λ w. not (eqb w pad)) ws ≡ take (length (keep (λ w. not (eqb w pad)) ws)) ws)
-        → ((k : ℕ) → onlyPad (drop k ws) ≡ true → length (keep (λ w. not (eqb w pad)) ws) ≤ k)
-        → cond (not t) (w ∷ keep (λ w. not (eqb w pad)) ws) (keep (λ w. not (eqb w pad)) ws)
-        ≡ take (length (cond (not t) (w ∷ keep (λ w. not (eqb w pad)) ws) (keep (λ w. not (eqb w pad)) ws))) (w ∷ ws)
-    go false e ih few = ap (λ (l : List ℕ). w ∷ l) (ih e)
-    go true e ih few = empty (keep (λ w. not (eqb w pad)) ws) e few
-      where
-        empty : (l : List ℕ) → onlyPad (drop (length l) (w ∷ ws)) ≡ true → ((k : ℕ) → onlyPad (drop k ws) ≡ true → length l ≤ k) → l ≡ take (length l) (w ∷ ws)
-        empty [] e few = refl
-        empty (x ∷ xs) e few = let h = few (length xs) e in absurd (omega arith)
+ids-are ws e =
+    let k = length (ids ws) in
+    sym (ap (λ (l : List ℕ). take k l) (ids-split ws e) ∙ take-at (ids ws) (replicate (length ws - k) pad) k refl)
 
 -- ---- the count of ids, after i words
 pub record Counted (words : List ℕ) (i count : ℕ) : Type 0 where
@@ -91,7 +62,8 @@ pub count-start : (words : List ℕ) → Counted words 0 0
 count-start words = record { upto = omega arith; few = omega arith; same = omega arith }
 
 module _ (words : List ℕ) (i count : ℕ) (w : Counted words i count) (h : i < length words) where
-  count-step : (t : Bool) → eqb (getD words i 0) pad ≡ t → length (ids (drop i words)) ≡ length (cond (not t) (getD words i 0 ∷ ids (drop (i + 1) words)) (ids (drop (i + 1) words)))
+  count-step : (t : Bool) → eqb (getD words i 0) pad ≡ t
+      → length (ids (drop i words)) ≡ length (cond (not t) (getD words i 0 ∷ ids (drop (i + 1) words)) (ids (drop (i + 1) words)))
   unfolding ids keep
   count-step t e = rw (drop-cons words i 0 h, add-one i, e) refl
 
@@ -119,7 +91,7 @@ module _ (n own : ℕ) (words : List ℕ) where
 
   pub row-foreign : searchRule n words ≡ false → buildRow n own words ≡ false
   unfolding allBelow
-  row-foreign e = build-row _ _ false _ refl refl (sym (rule-ids n words) ∙ e) refl ∙ rw (and-nothing (idsFirst words && distinct (ids words))) refl
+  row-foreign e = build-row _ _ false _ refl refl (sym (rule-ids n words) ∙ e) refl ∙ rw (and-false (idsFirst words && distinct (ids words))) refl
 
   pub row-mixed : idsFirst words ≡ false → buildRow n own words ≡ false
   row-mixed e = build-row false _ _ _ e refl refl refl
@@ -128,13 +100,9 @@ module _ (n own : ℕ) (words : List ℕ) where
   unfolding allBelow
   row-repeats e f =
       build-row true _ true _ f refl (sym (rule-ids n words) ∙ e) refl
-      ∙ ap (λ (t : Bool). t && not (isIn own (ids words))) (all (distinct (ids words)))
+      ∙ ap (λ (t : Bool). t && not (isIn own (ids words))) (and-true (distinct (ids words)))
       ∙ sym (apart-one own (ids words))
       ∙ ap (λ (l : List ℕ). apart (own ∷ []) l) (ids-are words f)
-    where
-      all : (t : Bool) → (t && true) ≡ t
-      all true = refl
-      all false = refl
 
   -- the ids of such a row have a mark
   pub row-below : searchRule n words ≡ true → idsFirst words ≡ true → allBelow n (take (length (ids words)) words) ≡ true
@@ -162,7 +130,8 @@ module _ (n own : ℕ) (words : List ℕ) where
         pub row-room : allBelow (length (set marks own (own + 1))) (take (count - 0) words) ≡ true
         row-room =
             ap (λ (l : List ℕ). allBelow (length (set marks own (own + 1))) l) front
-            ∙ below-more n _ _ (let s = length-set marks own (own + 1) in let q = ready .room in let m = ready .nodes in omega arith) (row-below rule (sym first-is ∙ padded))
+            ∙ below-more n _ _ (let s = length-set marks own (own + 1) in let q = ready .room in let m = ready .nodes in omega arith)
+            (row-below rule (sym first-is ∙ padded))
 
         pub row-end : (r : Bool) (after : List ℕ) → Repeats (set marks own (own + 1)) (own + 1) (take (count - 0) words) r after → RowTested n own words r after
         row-end r after p = record {
@@ -187,7 +156,8 @@ module _ (n width : ℕ) (table : List ℕ) where
   rows-start marks h m = let z : n - 0 ≡ n = omega arith in record { upto = omega arith; room = h; most = m; same = rw z refl }
 
   module _ (i : ℕ) (marks : List ℕ) (w : Rowed n width table i marks) (h : i < n) where
-    rows-step : each (λ k. buildRow n k (row width table k)) (run i (n - i)) ≡ (buildRow n i (row width table i) && each (λ k. buildRow n k (row width table k)) (run (i + 1) (n - (i + 1))))
+    rows-step : each (λ k. buildRow n k (row width table k)) (run i (n - i))
+        ≡ (buildRow n i (row width table i) && each (λ k. buildRow n k (row width table k)) (run (i + 1) (n - (i + 1))))
     unfolding each run
     rows-step = let k : n - i ≡ suc (n - (i + 1)) = omega arith in rw (k, add-one i) refl
 
@@ -197,7 +167,7 @@ module _ (n width : ℕ) (table : List ℕ) where
       own-in = h;
       room = w .room;
       most = w .most;
-      few = let f = part-fits width n i h in let e = part-length (i * width) (i * width + width) table (omega arith) in omega arith;
+      few = let f = row-fits i n width h in let e = part-length (i * width) (i * width + width) table (omega arith) in omega arith;
     }
 
     module _ (r : Bool) (after : List ℕ) (t : RowTested n i (take (i * width + width - i * width) (drop (i * width) table)) r after) where
@@ -214,7 +184,8 @@ module _ (n width : ℕ) (table : List ℕ) where
       pub rows-more : r ≡ false → length after ≡ length marks → Rowed n width table (i + 1) after
       rows-more e size =
           let good : buildRow n i (row width table i) ≡ true = not-false _ (sym tested ∙ e) in
-          let kept : each (λ k. buildRow n k (row width table k)) (run i (n - i)) ≡ each (λ k. buildRow n k (row width table k)) (run (i + 1) (n - (i + 1))) = rows-step ∙ rw good refl in
+          let kept : each (λ k. buildRow n k (row width table k)) (run i (n - i))
+          ≡ each (λ k. buildRow n k (row width table k)) (run (i + 1) (n - (i + 1))) = rows-step ∙ rw good refl in
           record { upto = omega arith; room = size ∙ w .room; most = t .most; same = sym kept ∙ w .same }
 
   pub rows-end : (i : ℕ) (marks : List ℕ) → Rowed n width table i marks → n ≤ i → false ≡ not (buildRule n width table)
@@ -232,7 +203,3 @@ module _ (n width : ℕ) (table : List ℕ) where
   pub table-rule : wrongLength n width (length table) ≡ false → not (buildRule n width table) ≡ badTable n width table
   unfolding badTable badLength wrongLength
   table-rule e = rw e refl
-
-pub length-right : (n width size : ℕ) → wrongLength n width size ≡ false → size ≡ n * width
-unfolding wrongLength
-length-right n width size e = eqb-true size (n * width) (not-false _ e)

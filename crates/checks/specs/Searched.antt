@@ -11,7 +11,8 @@ use Rattle.definition.specs.Lists.{each}
 use Rattle.definition.specs.Tables.{pad, searchRule}
 use Rattle.definition.specs.Refusals.{badLength, badSearched}
 use Rattle.laws.specs.Words.{padding, Row}
-use Rattle.checks.specs.Bools.{or-false, not-false, and-true}
+use Rattle.laws.specs.Truth.{and-both, or-neither}
+use Rattle.checks.specs.Bools.{not-false}
 use Rattle.checks.specs.Lengths.{wrongLength}
 use Rattle.checks.specs.Good.{length-good}
 
@@ -26,15 +27,15 @@ searched-rule n degree table e = rw e refl
 pub rule-words : (n : ℕ) (words : List ℕ) → searchRule n words ≡ true → Row n words
 unfolding searchRule each pad
 rule-words n [] e k h p = absurd (omega arith)
-rule-words n (x ∷ xs) e zero h p = go (eqb x padding) refl (and-true (eqb x padding || ltb x n) _ e .0)
+rule-words n (x ∷ xs) e zero h p = go (eqb x padding) refl (and-both (eqb x padding || ltb x n) _ e .0)
   where
     go : (t : Bool) → eqb x padding ≡ t → (t || ltb x n) ≡ true → x < n
     go true q f = absurd (p (eqb-true x padding q))
     go false q f = ltb-true x n f
-rule-words n (x ∷ xs) e (suc k) h p = rule-words n xs (and-true (eqb x padding || ltb x n) _ e .1) k (omega arith) p
+rule-words n (x ∷ xs) e (suc k) h p = rule-words n xs (and-both (eqb x padding || ltb x n) _ e .1) k (omega arith) p
 
 pub searched-good : (n degree : ℕ) (table : List ℕ) → badSearched n degree table ≡ false → (length table ≡ n * degree) × Row n table
 unfolding badSearched
 searched-good n degree table e =
-    let s = or-false (badLength n degree table) (not (searchRule n table)) e in
+    let s = or-neither (badLength n degree table) (not (searchRule n table)) e in
     (length-good n degree table (s .0), rule-words n table (not-false _ (s .1)))

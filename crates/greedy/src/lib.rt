@@ -1,5 +1,10 @@
 // Parts 3 and 4. Marks, and the greedy walk from a start over the rows of a flat table of any width.
 // One walk serves search and build: what it visits is recorded only as far as `log` reaches, 0 in a search and n in a build.
+//
+//     words:   marks 0 .. n | frontier ids n .. 2n | work ids 2n .. 2n + 256 | visited ids 2n + 256 .. 2n + 256 + log
+//     floats:  frontier 0 .. n | work n .. n + 256 | visited n + 256 .. n + 256 + log
+//
+// The visited come last, so that the room of a search is the front of that of a build.
 
 ghost use mathlib.Core.Path.{_≡_};
 ghost use Prim.Native.Nat.{ℕ, _+_, _-_, _*_, _≤_, _<_};

@@ -10,7 +10,7 @@ use lib.ListN.{length}
 use Rattle.definition.specs.declared.Answer.{Answer}
 use Rattle.definition.specs.Refusals.{SearchCall, mostAnswers, searchShort, searchNumberAt, searchNumber}
 use Rattle.definition.specs.Outcome.{answer, refused, byNumber, searchKept, searchDone, searchOut, SearchMeets, SearchOut}
-use Rattle.checks.specs.SearchNumber.{SearchNumbered, Accepted, accepted-at, plain-at}
+use Rattle.numbers.specs.SearchNumber.{SearchNumbered, Accepted, accepted-at, plain-at}
 
 abbrev pub outOf : Answer → List ℕ → List Float → List ℕ → List Float → SearchOut
 outOf a words floats ids dists = record { answer = a; words = words; floats = floats; ids = ids; dists = dists }

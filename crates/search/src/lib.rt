@@ -9,7 +9,7 @@ ghost use Rattle.definition.specs.Lists.{cleared};
 ghost use Rattle.definition.specs.Floats.{nought};
 ghost use Rattle.definition.specs.Refusals.{searchWords, searchFloats};
 ghost use Rattle.definition.specs.Outcome.{SearchMeets};
-ghost use Rattle.checks.specs.SearchNumber.{callOf, Accepted};
+ghost use Rattle.numbers.specs.SearchNumber.{callOf, Accepted};
 ghost use Rattle.search.specs.Answering.{Listed, Wiped};
 ghost use Rattle.search.specs.Statement.{outOf, Searched, SearchedBeside};
 
@@ -87,12 +87,12 @@ pub fn search_accepted(
         (callOf n dim (now (vectors .entry)) degree beam k start (now (table .entry)) (now (query .entry)) (now (words .entry)) (now (floats .entry)) (now (ids .entry)) (now (dists .entry)))
         (outOf r (now (words .exit)) (now (floats .exit)) (now (ids .exit)) (now (dists .exit))) ⌝ }
 {
-    let width = raised(beam);
+    let most = raised(beam);
     let p = Plan {
         n,
         dim,
         width: degree,
-        beam: width,
+        beam: most,
         log: 0,
     };
     laws::clear_words(&mut words[0..n]);
@@ -129,7 +129,7 @@ pub fn search_beside(
         run
         (outOf r (now (words .exit)) (now (floats .exit)) (now (ids .exit)) (now (dists .exit))) ⌝ }
 {
-    let number = checks::numbers::search_number(
+    let number = numbers::search_number(
         n,
         dim,
         vectors,

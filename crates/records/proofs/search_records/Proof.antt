@@ -47,7 +47,7 @@ use denote.Triple.Walked.{says, Stays, stay-none, stay-slice, stay-none-slice, g
 use denote.Exit.{yes}
 use Rattle.definition.specs.declared.Candidate.{Candidate}
 use Rattle.definition.specs.declared.Answer.{Answer}
-use Rattle.checks.specs.SearchNumber.{callOf}
+use Rattle.numbers.specs.SearchNumber.{callOf}
 use Rattle.search.specs.Statement.{outOf, SearchedBeside}
 use Rattle.records.specs.Copied.{copied}
 use Rattle.records.specs.Statement.{in-all, meets}

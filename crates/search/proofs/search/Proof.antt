@@ -6,7 +6,7 @@ use native.Mathlib.Omega.{arith}
 use lib.ListN.{length, getD, set, take, drop, length-set}
 use borrow.Author.Needs.{needs}
 use Rattle.definition.specs.Refusals.{SearchCall}
-use Rattle.checks.specs.SearchNumber.{callOf}
+use Rattle.numbers.specs.SearchNumber.{callOf}
 use Rattle.search.specs.Statement.{meets}
 use Rattle.search.proofs.search.Statement.{statement}
 use Rattle.search.proofs.search.Tie as tie

@@ -6,7 +6,7 @@ use native.Mathlib.Omega.{arith}
 use lib.ListN.{length, getD, set, take, drop, length-set}
 use borrow.Author.Needs.{needs}
 use Rattle.definition.specs.Refusals.{SearchCall}
-use Rattle.checks.specs.SearchNumber.{callOf}
+use Rattle.numbers.specs.SearchNumber.{callOf}
 use Rattle.search.proofs.Passing.{front, start-room, start-measures, list-from, list-to, wipe-room, done}
 use Rattle.search.proofs.search_accepted.Statement.{statement}
 use Rattle.search.proofs.search_accepted.Tie as tie

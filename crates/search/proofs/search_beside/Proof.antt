@@ -6,14 +6,14 @@ use native.Mathlib.Omega.{arith}
 use lib.ListN.{length, getD, set, take, drop, length-set}
 use borrow.Author.Needs.{needs}
 use Rattle.definition.specs.Refusals.{SearchCall}
-use Rattle.checks.specs.SearchNumber.{callOf}
+use Rattle.numbers.specs.SearchNumber.{callOf}
 use Rattle.search.specs.Statement.{beside-refused, beside-accepted, beside-done}
 use Rattle.search.proofs.search_beside.Statement.{statement}
 use Rattle.search.proofs.search_beside.Tie as tie
 use Rattle.search.proofs.search_beside.Reads as reads
 use Rattle.search.proofs.search_beside.Lts as lts
 use Rattle.answer.proofs.refused.Reads as refused-reads
-use Rattle.checks.proofs.numbers.search_number.Reads as search-number-reads
+use Rattle.numbers.proofs.search_number.Reads as search-number-reads
 use Rattle.search.proofs.search_accepted.Reads as search-accepted-reads
 
 -- the call

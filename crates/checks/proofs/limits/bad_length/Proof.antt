@@ -2,12 +2,13 @@
 use mathlib.Core.Path.{refl}
 use Prim.Native.Nat.{_-_}
 use native.Mathlib.Omega.{arith}
-use Rattle.checks.specs.Lengths.{wrongLength, product-fits}
+use native.Mathlib.Nat.{mul-le-mul}
+use Rattle.checks.specs.Lengths.{wrongLength}
 use Rattle.checks.proofs.limits.bad_length.Statement.{statement}
 use Rattle.checks.proofs.limits.bad_length.Tie as tie
 
 mul-all : tie.Need-mul-all
-mul-all c = omega (arith, product-fits (c .args .n) (c .args .width) 65536 128 (c .pre .0) (c .pre .1))
+mul-all c = omega (arith, mul-le-mul (c .pre .0) (c .pre .1))
 
 returns : tie.Need-returns
 unfolding wrongLength

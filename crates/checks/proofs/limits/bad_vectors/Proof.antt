@@ -4,7 +4,7 @@ use Prim.Native.Nat.{_-_}
 use native.Mathlib.Omega.{arith}
 use borrow.Author.Needs.{needs}
 use Rattle.definition.specs.Refusals.{badVectors}
-use Rattle.checks.specs.Lengths.{product-fits}
+use native.Mathlib.Nat.{mul-le-mul}
 use Rattle.checks.specs.Good.{count-good}
 use Rattle.checks.proofs.limits.bad_vectors.Statement.{statement}
 use Rattle.checks.proofs.limits.bad_vectors.Tie as tie
@@ -18,7 +18,7 @@ returns c = rw (sym (c .before .bad-count .ensures) ∙ c .if1 .taken) refl
 
 mul-all : tie.Need-mul-all
 mul-all c =
-    let s = c .before .before .before in omega (arith, product-fits (s .args .n) (s .args .dim) 65536 256 (count-good _ (sym (c .before .bad-count .ensures) ∙ c .if1 .left) .1) (s .pre))
+    omega (arith, mul-le-mul (count-good _ (sym (c .before .bad-count .ensures) ∙ c .if1 .left) .1) (c .before .before .before .pre))
 
 returns-2 : tie.Need-returns-2
 unfolding badVectors

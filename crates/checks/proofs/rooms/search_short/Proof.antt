@@ -31,17 +31,32 @@ most-answers-requires c κs = search needs
 returns-3 : tie.Need-returns-3
 unfolding searchShortBy searchWords searchFloats
 returns-3 c =
-    rw (le-ltb _ _ (c .before .before .before .if1 .left), le-ltb _ _ (c .before .before .if2 .left), ← c .before .most-answers .ensures, lt-ltb _ _ (c .if3 .taken)) refl
+    let e = c .before in
+    rw (le-ltb _ _ (e .before .before .if1 .left), le-ltb _ _ (e .before .if2 .left), ← e .most-answers .ensures, lt-ltb _ _ (c .if3 .taken)) refl
 
 returns-4 : tie.Need-returns-4
 unfolding searchShortBy searchWords searchFloats
 returns-4 c =
-    rw (le-ltb _ _ (c .before .before .before .before .if1 .left), le-ltb _ _ (c .before .before .before .if2 .left), ← c .before .before .most-answers .ensures, le-ltb _ _ (c .before .if3 .left), lt-ltb _ _ (c .if4 .taken)) refl
+    let e = c .before .before in
+    rw (
+      le-ltb _ _ (e .before .before .if1 .left),
+      le-ltb _ _ (e .before .if2 .left),
+      ← e .most-answers .ensures,
+      le-ltb _ _ (c .before .if3 .left),
+      lt-ltb _ _ (c .if4 .taken),
+    ) refl
 
 returns-5 : tie.Need-returns-5
 unfolding searchShortBy searchWords searchFloats
 returns-5 c =
-    rw (le-ltb _ _ (c .before .before .before .before .if1 .left), le-ltb _ _ (c .before .before .before .if2 .left), ← c .before .before .most-answers .ensures, le-ltb _ _ (c .before .if3 .left), le-ltb _ _ (c .if4 .left)) refl
+    let e = c .before .before in
+    rw (
+      le-ltb _ _ (e .before .before .if1 .left),
+      le-ltb _ _ (e .before .if2 .left),
+      ← e .most-answers .ensures,
+      le-ltb _ _ (c .before .if3 .left),
+      le-ltb _ _ (c .if4 .left),
+    ) refl
 
 pub search-short-spec : {M : Type 1} → statement M
 search-short-spec =

@@ -1,7 +1,8 @@
 -- `all_below` meets its contract.
 use mathlib.Core.Path.{sym, subst}
 use mathlib.Core.Logic.{⊎-elim}
-use Prim.Native.Nat.{_-_}
+use mathlib.Core.Bool.{Bool}
+use Prim.Native.Nat.{ℕ, _-_}
 use native.Mathlib.Omega.{arith}
 use lib.ListN.{length}
 use borrow.Author.Needs.{needs}
@@ -40,9 +41,10 @@ loop-again : tie.Need-loop-again Inv-loop μ-loop
 unfolding allBelow
 loop-again c =
     let s = c .before .before in let t = s .before in let v = t .before in
+    let p : ℕ → Bool = λ u. ltb u (v .args .n) in let l = v .args .ids .now in let o = t .loop in let h = s .loop-test .taken in
     ⊎-elim
-    (λ w. subst (Looked _ _ _) (sym (w .1)) (look-bad (λ u. ltb u (v .args .n)) (v .args .ids .now) (t .loop .i) (t .loop .found) (t .loop .inv) (s .loop-test .taken) (le-ltb _ _ (w .0 .taken))))
-    (λ w. subst (Looked _ _ _) (sym (w .1)) (look-good (λ u. ltb u (v .args .n)) (v .args .ids .now) (t .loop .i) (t .loop .found) (t .loop .inv) (s .loop-test .taken) (lt-ltb _ _ (w .0 .left))))
+    (λ w. subst (Looked _ _ _) (sym (w .1)) (look-bad p l (o .i) (o .found) (o .inv) h (le-ltb _ _ (w .0 .taken))))
+    (λ w. subst (Looked _ _ _) (sym (w .1)) (look-good p l (o .i) (o .found) (o .inv) h (lt-ltb _ _ (w .0 .left))))
     (c .if1 .came)
 
 returns : tie.Need-returns Inv-loop μ-loop

@@ -7,7 +7,7 @@ use borrow.Author.Needs.{needs}
 use Rattle.definition.specs.Refusals.{goodGroup}
 use Rattle.checks.specs.Groups.{seed-far, seed-start, seed-again, seed-good, seeds-end}
 use Rattle.definition.specs.Lists.{isIn}
-use Rattle.checks.specs.Lengths.{rest-is}
+use Rattle.checks.specs.Lent.{rest-is}
 use Rattle.checks.proofs.sets.bad_group.Statement.{statement}
 use Rattle.checks.proofs.sets.bad_group.Tie as tie
 
@@ -31,13 +31,13 @@ cast-if1 c = record { fits = omega (arith, c .shared-slice-known2 .given (c .bef
 
 returns : tie.Need-returns Inv-loop μ-loop
 returns c =
-    let s = c .before .before .before in let t = s .before .before in
-    seed-far (t .args .n) (t .args .start) (t .args .group .now) (s .loop .i) (s .loop .inv .1) (c .before .before .loop-test .taken) (c .if1 .taken)
+    let s = c .before .before .before in let t = s .before .before in let a = t .args in
+    seed-far (a .n) (a .start) (a .group .now) (s .loop .i) (s .loop .inv .1) (c .before .before .loop-test .taken) (c .if1 .taken)
 
 returns-2 : tie.Need-returns-2 Inv-loop μ-loop
 returns-2 c =
-    let s = c .before .before .before .before in let t = s .before .before in
-    seed-start (t .args .n) (t .args .start) (t .args .group .now) (s .loop .i) (s .loop .inv .1) (c .before .before .before .loop-test .taken) (c .before .if1 .left) (c .if2 .taken)
+    let s = c .before .before .before .before in let t = s .before .before in let a = t .args in
+    seed-start (a .n) (a .start) (a .group .now) (s .loop .i) (s .loop .inv .1) (c .before .before .before .loop-test .taken) (c .before .if1 .left) (c .if2 .taken)
 
 add-next : tie.Need-add-next Inv-loop μ-loop
 add-next c = search needs
@@ -59,16 +59,22 @@ is-among-requires c κs = search needs
 
 returns-3 : tie.Need-returns-3 Inv-loop μ-loop
 returns-3 c =
-    let s = c .before .before .before .before .before .before .before in let t = s .before .before in
-    seed-again (t .args .n) (t .args .start) (t .args .group .now) (s .loop .i) (s .loop .inv .1) (c .before .before .before .before .before .before .loop-test .taken) (c .before .before .before .before .if1 .left) (c .before .before .before .if2 .left) (ap (isIn _) (sym (rest-is (s .loop .i + 1) (t .args .group .now) (omega arith))) ∙ sym (c .before .is-among .ensures) ∙ c .if3 .taken)
+    let s = c .before .before .before .before .before .before .before in let t = s .before .before in let a = t .args in
+    seed-again (a .n) (a .start) (a .group .now) (s .loop .i) (s .loop .inv .1)
+    (c .before .before .before .before .before .before .loop-test .taken) (c .before .before .before .before .if1 .left) (c .before .before .before .if2 .left)
+    (ap (isIn _) (sym (rest-is (s .loop .i + 1) (a .group .now) (omega arith))) ∙ sym (c .before .is-among .ensures) ∙ c .if3 .taken)
 
 loop-less : tie.Need-loop-less Inv-loop μ-loop
 loop-less c = omega arith
 
 loop-again : tie.Need-loop-again Inv-loop μ-loop
 loop-again c =
-    let s = c .before .before .before .before .before .before .before in let t = s .before .before in
-    (omega arith, seed-good (t .args .n) (t .args .start) (t .args .group .now) (s .loop .i) (s .loop .inv .1) (c .before .before .before .before .before .before .loop-test .taken) (c .before .before .before .before .if1 .left) (c .before .before .before .if2 .left) (ap (isIn _) (sym (rest-is (s .loop .i + 1) (t .args .group .now) (omega arith))) ∙ sym (c .before .is-among .ensures) ∙ c .if3 .left))
+    let s = c .before .before .before .before .before .before .before in let t = s .before .before in let a = t .args in (
+      omega arith,
+      seed-good (a .n) (a .start) (a .group .now) (s .loop .i) (s .loop .inv .1)
+          (c .before .before .before .before .before .before .loop-test .taken) (c .before .before .before .before .if1 .left) (c .before .before .before .if2 .left)
+          (ap (isIn _) (sym (rest-is (s .loop .i + 1) (a .group .now) (omega arith))) ∙ sym (c .before .is-among .ensures) ∙ c .if3 .left),
+    )
 
 returns-4 : tie.Need-returns-4 Inv-loop μ-loop
 returns-4 c = seeds-end _ _ _ _ (c .before .loop .inv .1) (c .loop-test .left)

@@ -27,7 +27,11 @@ has-repeat-requires c κs =
 returns-3 : tie.Need-returns-3
 unfolding badNodes allBelow
 returns-3 c =
-    rw (le-ltb _ _ (c .before .before .before .if1 .left), sym (c .before .before .all-below .ensures) ∙ not-false _ (c .before .if2 .left), c .has-repeat .ensures) refl
+    rw (
+      le-ltb _ _ (c .before .before .before .if1 .left),
+      sym (c .before .before .all-below .ensures) ∙ not-false _ (c .before .if2 .left),
+      c .has-repeat .ensures,
+    ) refl
 
 pub bad-nodes-spec : {M : Type 1} → statement M
 bad-nodes-spec =

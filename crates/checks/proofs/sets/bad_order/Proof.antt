@@ -27,7 +27,11 @@ has-repeat-requires c κs =
 returns-3 : tie.Need-returns-3
 unfolding badOrder allBelow
 returns-3 c =
-    rw (eq-eqb _ _ (c .before .before .before .if1 .left), sym (c .before .before .all-below .ensures) ∙ not-false _ (c .before .if2 .left), c .has-repeat .ensures) refl
+    rw (
+      eq-eqb _ _ (c .before .before .before .if1 .left),
+      sym (c .before .before .all-below .ensures) ∙ not-false _ (c .before .if2 .left),
+      c .has-repeat .ensures,
+    ) refl
 
 pub bad-order-spec : {M : Type 1} → statement M
 bad-order-spec =

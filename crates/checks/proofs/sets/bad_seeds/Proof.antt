@@ -12,39 +12,47 @@ bad-extra-requires c κs = search needs
 
 returns : tie.Need-returns
 returns c =
-    let s = c .before .before .before in
-    seeds-limit (s .args .n) (s .args .extra) (s .args .start) (s .args .count) (s .args .seeds .now) (sym (c .before .bad-extra .ensures) ∙ c .if1 .taken)
+    let s = c .before .before .before in let a = s .args in
+    seeds-limit (a .n) (a .extra) (a .start) (a .count) (a .seeds .now)
+    (sym (c .before .bad-extra .ensures) ∙ c .if1 .taken)
 
 returns-2 : tie.Need-returns-2
 returns-2 c =
-    let s = c .before .before .before .before in
-    seeds-none (s .args .n) (s .args .extra) (s .args .start) (s .args .count) (s .args .seeds .now) (sym (c .before .before .bad-extra .ensures) ∙ c .before .if1 .left) (c .if2 .taken)
+    let s = c .before .before .before .before in let a = s .args in
+    seeds-none (a .n) (a .extra) (a .start) (a .count) (a .seeds .now)
+    (sym (c .before .before .bad-extra .ensures) ∙ c .before .if1 .left) (c .if2 .taken)
 
 rem-if3 : tie.Need-rem-if3
 rem-if3 c = search needs
 
 returns-3 : tie.Need-returns-3
 returns-3 c =
-    let s = c .before .before .before .before .before in
-    seeds-wrong (s .args .n) (s .args .extra) (s .args .start) (s .args .count) (s .args .seeds .now) (sym (c .before .before .before .bad-extra .ensures) ∙ c .before .before .if1 .left) (whole-groups (length (s .args .seeds .now)) (s .args .extra) (s .args .count) (c .before .if2 .left) (c .if3 .taken))
+    let s = c .before .before .before .before .before in let a = s .args in
+    seeds-wrong (a .n) (a .extra) (a .start) (a .count) (a .seeds .now)
+    (sym (c .before .before .before .bad-extra .ensures) ∙ c .before .before .if1 .left)
+    (whole-groups (length (a .seeds .now)) (a .extra) (a .count) (c .before .if2 .left) (c .if3 .taken))
 
 div-if4 : tie.Need-div-if4
 div-if4 c = search needs
 
 returns-4 : tie.Need-returns-4
 returns-4 c =
-    let s = c .before .before .before .before .before .before in
-    seeds-wrong (s .args .n) (s .args .extra) (s .args .start) (s .args .count) (s .args .seeds .now) (sym (c .before .before .before .before .bad-extra .ensures) ∙ c .before .before .before .if1 .left) (as-many (length (s .args .seeds .now)) (s .args .extra) (s .args .count) (c .before .before .if2 .left) (c .if4 .taken))
+    let s = c .before .before .before .before .before .before in let a = s .args in
+    seeds-wrong (a .n) (a .extra) (a .start) (a .count) (a .seeds .now)
+    (sym (c .before .before .before .before .bad-extra .ensures) ∙ c .before .before .before .if1 .left)
+    (as-many (length (a .seeds .now)) (a .extra) (a .count) (c .before .before .if2 .left) (c .if4 .taken))
 
 bad-groups-requires : tie.Need-bad-groups-requires
 bad-groups-requires c κs =
-    let s = c .before .before .before .before .before .before in
-    right-many (length (s .args .seeds .now)) (s .args .extra) (s .args .count) (c .before .if3 .left) (c .if4 .left)
+    let s = c .before .before .before .before .before .before in let a = s .args in
+    right-many (length (a .seeds .now)) (a .extra) (a .count) (c .before .if3 .left) (c .if4 .left)
 
 returns-5 : tie.Need-returns-5
 returns-5 c =
-    let s = c .before .before .before .before .before .before .before in
-    c .bad-groups .ensures ∙ seeds-right (s .args .n) (s .args .extra) (s .args .start) (s .args .count) (s .args .seeds .now) (sym (c .before .before .before .before .before .bad-extra .ensures) ∙ c .before .before .before .before .if1 .left) (right-many (length (s .args .seeds .now)) (s .args .extra) (s .args .count) (c .before .before .if3 .left) (c .before .if4 .left))
+    let s = c .before .before .before .before .before .before .before in let a = s .args in
+    c .bad-groups .ensures ∙ seeds-right (a .n) (a .extra) (a .start) (a .count) (a .seeds .now)
+    (sym (c .before .before .before .before .before .bad-extra .ensures) ∙ c .before .before .before .before .if1 .left)
+    (right-many (length (a .seeds .now)) (a .extra) (a .count) (c .before .before .if3 .left) (c .before .if4 .left))
 
 pub bad-seeds-spec : {M : Type 1} → statement M
 bad-seeds-spec =

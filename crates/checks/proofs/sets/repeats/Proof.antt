@@ -40,7 +40,8 @@ same-length c = c .before .before .before .before .loop .inv .size
 returns : tie.Need-returns Inv-loop μ-loop
 returns c =
     let s = c .before .before .before .before in let t = s .before in
-    pass-again (t .args .marks .now) (t .args .stamp) (t .args .ids .now) (s .loop .i) (s .loop .marks) (s .loop .inv) (c .before .before .before .loop-test .taken) (c .if1 .taken)
+    let a = t .args in let o = s .loop in
+    pass-again (a .marks .now) (a .stamp) (a .ids .now) (o .i) (o .marks) (o .inv) (c .before .before .before .loop-test .taken) (c .if1 .taken)
 
 mul-marks : tie.Need-mul-marks Inv-loop μ-loop
 mul-marks c = record { fits = omega (arith, c .before .before .shared-slice-known .given (c .before .before .before .before .loop .i) .fits) }
@@ -59,7 +60,9 @@ loop-less c = omega arith
 loop-again : tie.Need-loop-again Inv-loop μ-loop
 loop-again c =
     let t = c .before .before .before in let u = t .before in let v = u .before in
-    pass-on (v .args .marks .now) (v .args .stamp) (v .args .ids .now) (u .loop .i) (u .loop .marks) (u .loop .inv) (t .loop-test .taken) (let s = below-at _ (v .args .ids .now) (u .loop .i) (v .pre) (t .loop-test .taken) in omega (arith, u .loop .inv .size)) (c .if1 .left)
+    let a = v .args in let o = u .loop in let h = t .loop-test .taken in
+    pass-on (a .marks .now) (a .stamp) (a .ids .now) (o .i) (o .marks) (o .inv) h
+    (let s = below-at _ (a .ids .now) (o .i) (v .pre) h in omega (arith, o .inv .size)) (c .if1 .left)
 
 same-length-2 : tie.Need-same-length-2 Inv-loop μ-loop
 same-length-2 c = c .before .loop .inv .size

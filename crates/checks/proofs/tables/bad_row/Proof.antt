@@ -14,7 +14,8 @@ has-foreign-requires c κs = search needs
 returns : tie.Need-returns
 returns c =
     let s = c .before .before .before .before in
-    row-bad-word (s .args .n) (s .args .own) (s .args .words .now) (s .args .marks .now) (s .pre) (not-true _ (sym (c .before .has-foreign .ensures) ∙ c .if1 .taken))
+    let a = s .args in
+    row-bad-word (a .n) (a .own) (a .words .now) (a .marks .now) (s .pre) (not-true _ (sym (c .before .has-foreign .ensures) ∙ c .if1 .taken))
 
 count-ids-requires : tie.Need-count-ids-requires
 count-ids-requires c κs = search needs
@@ -37,7 +38,9 @@ only-padding-requires c κs = search needs
 returns-2 : tie.Need-returns-2
 returns-2 c =
     let s = c .before .before .before in let t = s .before .before .before .before .before in
-    row-bad-order (t .args .n) (t .args .own) (t .args .words .now) (t .args .marks .now) (t .pre) (s .count-ids .result) (s .count-ids .ensures .0) (s .count-ids .ensures .1) (sym (c .before .only-padding .ensures) ∙ not-true _ (c .if2 .taken))
+    let a = t .args in let k = s .count-ids in
+    row-bad-order (a .n) (a .own) (a .words .now) (a .marks .now) (t .pre) (k .result) (k .ensures .0) (k .ensures .1)
+    (sym (c .before .only-padding .ensures) ∙ not-true _ (c .if2 .taken))
 
 add-next : tie.Need-add-next
 add-next c = search needs
@@ -63,7 +66,9 @@ part-repeats-end c = search needs
 repeats-requires : tie.Need-repeats-requires
 repeats-requires c κs =
     let s = c .before .before .before .before .before in let t = s .before .before .before .before .before in
-    row-room (t .args .n) (t .args .own) (t .args .words .now) (t .args .marks .now) (t .pre) (s .count-ids .result) (s .count-ids .ensures .0) (s .count-ids .ensures .1) (not-false _ (sym (c .before .before .before .before .before .before .before .has-foreign .ensures) ∙ c .before .before .before .before .before .before .if1 .left)) (sym (c .before .before .before .only-padding .ensures) ∙ not-false _ (c .before .before .if2 .left))
+    let a = t .args in let k = s .count-ids in let p = c .before .before in let w = p .before .before .before .before in
+    row-room (a .n) (a .own) (a .words .now) (a .marks .now) (t .pre) (k .result) (k .ensures .0) (k .ensures .1)
+    (not-false _ (sym (w .before .has-foreign .ensures) ∙ w .if1 .left)) (sym (p .before .only-padding .ensures) ∙ not-false _ (p .if2 .left))
 
 same-length : tie.Need-same-length
 same-length c =
@@ -73,7 +78,10 @@ same-length c =
 returns-3 : tie.Need-returns-3
 returns-3 c =
     let s = c .before .before .before .before .before .before .before .before in let t = s .before .before .before .before .before in
-    row-end (t .args .n) (t .args .own) (t .args .words .now) (t .args .marks .now) (t .pre) (s .count-ids .result) (s .count-ids .ensures .0) (s .count-ids .ensures .1) (not-false _ (sym (c .before .before .before .before .before .before .before .before .before .before .has-foreign .ensures) ∙ c .before .before .before .before .before .before .before .before .before .if1 .left)) (sym (c .before .before .before .before .before .before .only-padding .ensures) ∙ not-false _ (c .before .before .before .before .before .if2 .left)) _ _ (c .before .before .repeats .ensures)
+    let a = t .args in let k = s .count-ids in let p = c .before .before .before .before .before in let w = p .before .before .before .before in
+    row-end (a .n) (a .own) (a .words .now) (a .marks .now) (t .pre) (k .result) (k .ensures .0) (k .ensures .1)
+    (not-false _ (sym (w .before .has-foreign .ensures) ∙ w .if1 .left)) (sym (p .before .only-padding .ensures) ∙ not-false _ (p .if2 .left))
+    _ _ (c .before .before .repeats .ensures)
 
 pub bad-row-spec : {M : Type 1} → statement M
 bad-row-spec =

@@ -2,7 +2,8 @@
 use mathlib.Core.Path.{sym, _∙_}
 use Prim.Native.Nat.{_-_}
 use borrow.Author.Needs.{needs}
-use Rattle.checks.specs.Rows.{table-length, table-rule, length-right}
+use Rattle.checks.specs.Good.{length-right}
+use Rattle.checks.specs.Rows.{table-length, table-rule}
 use Rattle.checks.proofs.tables.bad_table.Statement.{statement}
 use Rattle.checks.proofs.tables.bad_table.Tie as tie
 

@@ -41,9 +41,13 @@ loop-less c = omega arith
 loop-again : tie.Need-loop-again Inv-loop μ-loop
 loop-again c =
     let s = c .before .before in let t = s .before in let u = t .before in let v = u .before .before in
+    let n = v .args .n in let l = v .args .words .now in let o = u .loop in let h = t .loop-test .taken in
+    let up = c .before .wrapping-add-u32 in let fits = s .shared-slice-known2 .given (u .loop .i) .fits in
     ⊎-elim
-    (λ w. subst (Looked _ _ _) (sym (w .1)) (look-bad (isWord (v .args .n)) (v .args .words .now) (u .loop .i) (u .loop .found) (u .loop .inv) (t .loop-test .taken) (word-foreign (v .args .n) _ (c .before .wrapping-add-u32 .result) (s .shared-slice-known2 .given (u .loop .i) .fits) (c .before .wrapping-add-u32 .ensures) (w .0 .taken))))
-    (λ w. subst (Looked _ _ _) (sym (w .1)) (look-good (isWord (v .args .n)) (v .args .words .now) (u .loop .i) (u .loop .found) (u .loop .inv) (t .loop-test .taken) (word-fine (v .args .n) _ (c .before .wrapping-add-u32 .result) (s .shared-slice-known2 .given (u .loop .i) .fits) (c .before .wrapping-add-u32 .ensures) (w .0 .left))))
+    (λ w. subst (Looked _ _ _) (sym (w .1))
+    (look-bad (isWord n) l (o .i) (o .found) (o .inv) h (word-foreign n _ (up .result) fits (up .ensures) (w .0 .taken))))
+    (λ w. subst (Looked _ _ _) (sym (w .1))
+    (look-good (isWord n) l (o .i) (o .found) (o .inv) h (word-fine n _ (up .result) fits (up .ensures) (w .0 .left))))
     (c .if1 .came)
 
 returns : tie.Need-returns Inv-loop μ-loop

@@ -1,0 +1,3 @@
+-- A batch.
+pub mod Says
+pub mod Batched

@@ -1,0 +1,179 @@
+// Part 7, the public calls: open, close and the whole build.
+ghost use mathlib.Core.Path.{_≡_};
+ghost use Prim.Native.Nat.{_+_, _≤_, min};
+ghost use Rattle.definition.specs.Outcome.{OpenMeets, CloseMeets, BuildMeets};
+ghost use Rattle.build.specs.Runs.{RunsReady, RunsDone};
+use definition::Answer;
+use definition::Params;
+
+// Opening rows copied to wide ones, or the number of the refusal.
+pub fn open(n: usize, degree: usize, opening: &[u32], wide: &mut [u32]) -> Answer
+    ensures { λ r. ⌜ OpenMeets
+        (record { n = n; degree = degree; opening = now (opening .entry); wide = now (wide .entry) })
+        (record { answer = r; wide = now (wide .exit) }) ⌝ }
+{
+    let number = numbers::open_number(n, degree, opening, wide.len());
+    if number != 0 {
+        return answer::refused(number);
+    }
+    let slack = checks::limits::slack(degree);
+    open_close::open_rows(n, degree, slack, opening, wide);
+    answer::done()
+}
+
+// Each row longer than the degree pruned into the closed table, the others copied; or the number of the refusal.
+pub fn close(
+    n: usize,
+    dim: usize,
+    vectors: &[u8],
+    params: Params,
+    wide: &[u32],
+    closed: &mut [u32],
+    words: &mut [u32],
+    floats: &mut [f32],
+) -> Answer
+    ensures { λ r. ⌜ CloseMeets
+        (record { n = n; dim = dim; vectors = now (vectors .entry); params = params; wide = now (wide .entry); closed = now (closed .entry); words = now (words .entry); floats = now (floats .entry) })
+        (record { answer = r; closed = now (closed .exit); words = now (words .exit); floats = now (floats .exit) }) ⌝ }
+{
+    let number = numbers::close_number(
+        n,
+        dim,
+        vectors,
+        params,
+        wide,
+        closed.len(),
+        words.len(),
+        floats.len(),
+    );
+    if number != 0 {
+        return answer::refused(number);
+    }
+    let slack = checks::limits::slack(params.degree);
+    open_close::close_rows(
+        n,
+        dim,
+        vectors,
+        params,
+        slack,
+        wide,
+        closed,
+        &mut floats[0..750],
+    );
+    room::clear_room(n, words, floats);
+    answer::done()
+}
+
+// Where the run that begins at `at` ends: 256 on, the last one at n.
+fn run_end(at: usize, n: usize) -> usize
+    requires { ⌜ (at ≤ n) × (n ≤ 65536) ⌝ }
+    ensures { λ r. ⌜ r ≡ min (at + 256) n ⌝ }
+{
+    let end = at + 256;
+    if end < n { end } else { n }
+}
+
+// The order in runs of 256, each a batch with as many groups of seeds.
+fn run_batches(
+    n: usize,
+    dim: usize,
+    vectors: &[u8],
+    params: Params,
+    slack: usize,
+    start: u32,
+    order: &[u32],
+    seeds: &[u32],
+    wide: &mut [u32],
+    words: &mut [u32],
+    floats: &mut [f32],
+)
+    requires { ⌜ RunsReady n dim (now vectors) params slack start (now order) (now seeds) (now wide) (now words) (now floats) ⌝ }
+    ensures { λ _. ⌜ RunsDone n dim (now (vectors .entry)) params slack start (now (order .entry)) (now (seeds .entry)) (now (wide .entry)) (now (words .entry)) (now (floats .entry)) (now (wide .exit)) (now (words .exit)) (now (floats .exit)) ⌝ }
+{
+    let extra = params.extra;
+    let mut at = 0;
+    while at < n {
+        let end = run_end(at, n);
+        let from = at * extra;
+        let to = end * extra;
+        batch::run_batch(
+            n,
+            dim,
+            vectors,
+            params,
+            slack,
+            start,
+            &order[at..end],
+            &seeds[from..to],
+            wide,
+            words,
+            floats,
+        );
+        at = end;
+    }
+}
+
+// The whole build: open, the order in runs of 256, close; or the number of the refusal.
+pub fn build(
+    n: usize,
+    dim: usize,
+    vectors: &[u8],
+    params: Params,
+    start: u32,
+    order: &[u32],
+    seeds: &[u32],
+    opening: &[u32],
+    wide: &mut [u32],
+    closed: &mut [u32],
+    words: &mut [u32],
+    floats: &mut [f32],
+) -> Answer
+    ensures { λ r. ⌜ BuildMeets
+        (record { n = n; dim = dim; vectors = now (vectors .entry); params = params; start = start; order = now (order .entry); seeds = now (seeds .entry); opening = now (opening .entry); wide = now (wide .entry); closed = now (closed .entry); words = now (words .entry); floats = now (floats .entry) })
+        (record { answer = r; wide = now (wide .exit); closed = now (closed .exit); words = now (words .exit); floats = now (floats .exit) }) ⌝ }
+{
+    let number = numbers::build_number(
+        n,
+        dim,
+        vectors,
+        params,
+        start,
+        order,
+        seeds,
+        opening,
+        wide.len(),
+        closed.len(),
+        words.len(),
+        floats.len(),
+    );
+    if number != 0 {
+        return answer::refused(number);
+    }
+    let slack = checks::limits::slack(params.degree);
+    open_close::open_rows(n, params.degree, slack, opening, wide);
+    run_batches(
+        n,
+        dim,
+        vectors,
+        params,
+        slack,
+        start,
+        order,
+        seeds,
+        wide,
+        words,
+        floats,
+    );
+    open_close::close_rows(
+        n,
+        dim,
+        vectors,
+        params,
+        slack,
+        wide,
+        closed,
+        &mut floats[0..750],
+    );
+    room::clear_room(n, words, floats);
+    answer::done()
+}

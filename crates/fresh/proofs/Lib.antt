@@ -1,0 +1,4 @@
+-- The laws behind the fresh rows.
+pub mod Inner
+pub mod Making
+pub mod Listing

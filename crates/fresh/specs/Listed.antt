@@ -1,0 +1,14 @@
+-- The listed nodes with their fresh rows, as the words of the rows say them.
+use Prim.Native.Nat.{ℕ}
+use mathlib.Core.List.{List, [], _∷_}
+use lib.ListN.{take, drop}
+use Rattle.definition.specs.Tables.{ids}
+use Rattle.definition.specs.Batch.{Listed}
+
+abbrev listed : ℕ → List ℕ → Listed
+listed u fresh = record { node = u; fresh = fresh }
+
+-- the listed nodes with their fresh rows, which lie 64 words apart
+unfoldable pub listedAt : List ℕ → List ℕ → List Listed
+listedAt [] t = []
+listedAt (u ∷ us) t = listed u (ids (take 64 t)) ∷ listedAt us (drop 64 t)

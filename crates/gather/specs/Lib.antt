@@ -1,0 +1,3 @@
+pub mod Grown
+pub mod Says
+pub mod Entries

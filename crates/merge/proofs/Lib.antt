@@ -1,0 +1,4 @@
+pub mod Chains
+pub mod OneRow
+pub mod Turns
+pub mod Merging

@@ -1,0 +1,4 @@
+-- The merge of a batch.
+pub mod Layout
+pub mod Says
+pub mod Zeroed

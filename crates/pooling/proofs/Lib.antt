@@ -1,0 +1,7 @@
+-- The laws behind the pool's functions.
+pub mod Members
+pub mod Adding
+pub mod Lending
+pub mod Rows
+pub mod Visits
+pub mod Growing

@@ -1,0 +1,58 @@
+use mathlib.Core.Path.{_≡_, refl, sym, ap, _∙_, subst}
+use mathlib.Core.Logic.{⊎-elim}
+use Prim.Native.Nat.{ℕ, suc, _+_, _-_, _*_, _≤_, _<_}
+use native.Mathlib.Omega.{arith}
+use lib.ListN.{length, getD, set, take, drop, length-set}
+use borrow.Author.Needs.{needs}
+use Rattle.definition.specs.Metric.{fromQuery}
+use Rattle.definition.specs.Greedy.{greedy}
+use Rattle.definition.specs.Tables.{row}
+use Rattle.greedy.specs.Scratch.{Room, Walks}
+use Rattle.pooling.specs.Pooled.{Pooled}
+use Rattle.pooling.proofs.Visits.{seen-below}
+use Rattle.pooling.proofs.Growing.{pool-kept, grown-walk}
+use Rattle.pooling.proofs.add_walk.Statement.{statement}
+use Rattle.pooling.proofs.add_walk.Tie as tie
+use Rattle.pooling.proofs.add_walk.Reads as reads
+use Rattle.pooling.proofs.add_walk.Lts as lts
+use Rattle.greedy.proofs.greedy.Reads as greedy-reads
+use Rattle.pooling.proofs.add_visited.Reads as add-visited-reads
+
+-- src/lib.rt:126:9
+greedy-requires : tie.Need-greedy-requires
+greedy-requires c κs =
+    let s = c .before .before .before .before .before .before .before in (
+      subst (λ (z : ℕ). Room (s .args .p .n) z (s .args .epoch) (s .args .p .beam) (s .args .words .now) (s .args .floats .now)) (sym (s .pre .0 .logs)) (s .pre .1 .0 .room),
+      (s .pre .0 .measures, ((s .pre .0 .size, s .pre .0 .narrow, s .pre .1 .1), s .pre .0 .rows)),
+    )
+
+-- src/lib.rt:127:9
+add-visited-requires : tie.Need-add-visited-requires
+add-visited-requires c κs =
+    let s = c .before .before .before .before .before .before .before .before .before .before .before .before .before .before in
+    let g = c .before .before .before .before .before .before .greedy in
+    let k : Walks (s .args .p .n) (s .args .p .n) (s .args .epoch) (s .args .p .beam) (s .args .words .now) (s .args .floats .now) (g .last .0) (g .last .1 .0) (g .result .epoch) (g .result .visited) (g .result .frontier) (g .result .work) (greedy (fromQuery (s .args .p .dim) (s .args .vectors .now) (s .args .query .now)) (row (s .args .p .width) (s .args .wide .now)) (s .args .p .n) (s .args .p .beam) (s .args .start)) = subst (λ (z : ℕ). Walks (s .args .p .n) z (s .args .epoch) (s .args .p .beam) (s .args .words .now) (s .args .floats .now) (g .last .0) (g .last .1 .0) (g .result .epoch) (g .result .visited) (g .result .frontier) (g .result .work) (greedy (fromQuery (s .args .p .dim) (s .args .vectors .now) (s .args .query .now)) (row (s .args .p .width) (s .args .wide .now)) (s .args .p .n) (s .args .p .beam) (s .args .start))) (s .pre .0 .logs) (g .ensures) in (
+      subst (Pooled (s .args .p .n) (s .args .stamp) (s .args .len)) (sym (pool-kept (s .args .p .n) (s .args .p .width) (s .args .p .beam) (s .args .wide .now) (fromQuery (s .args .p .dim) (s .args .vectors .now) (s .args .query .now)) (s .args .start) (s .pre .1 .1) (s .pre .0 .rows) (s .args .epoch) (s .args .words .now) (g .last .0) (s .args .floats .now) (g .last .1 .0) (g .result .epoch) (g .result .visited) (g .result .frontier) (g .result .work) k)) (s .pre .1 .0 .pooled),
+      ((s .pre .1 .0 .room .nodes, omega (arith, k .words-kept .size, s .pre .1 .0 .word-room), omega (arith, k .floats-kept .size, s .pre .1 .0 .float-room), k .visited-le), seen-below (s .args .p .n) (s .args .p .width) (s .args .p .beam) (s .args .wide .now) (fromQuery (s .args .p .dim) (s .args .vectors .now) (s .args .query .now)) (s .args .start) (s .pre .1 .1) (s .pre .0 .rows) (s .args .epoch) (s .args .words .now) (g .last .0) (s .args .floats .now) (g .last .1 .0) (g .result .epoch) (g .result .visited) (g .result .frontier) (g .result .work) k),
+    )
+
+-- src/lib.rt:109:1
+same-length : tie.Need-same-length
+same-length c = search needs
+
+-- src/lib.rt:109:1
+same-length-2 : tie.Need-same-length-2
+same-length-2 c = search needs
+
+-- src/lib.rt:109:1
+returns : tie.Need-returns
+returns c =
+    let s = c .before .before .before .before .before .before .before .before .before .before .before .before .before .before .before .before .before .before .before in
+    let g = c .before .before .before .before .before .before .before .before .before .before .before .greedy in
+    let a = c .before .before .before .before .add-visited in
+    let k : Walks (s .args .p .n) (s .args .p .n) (s .args .epoch) (s .args .p .beam) (s .args .words .now) (s .args .floats .now) (g .last .0) (g .last .1 .0) (g .result .epoch) (g .result .visited) (g .result .frontier) (g .result .work) (greedy (fromQuery (s .args .p .dim) (s .args .vectors .now) (s .args .query .now)) (row (s .args .p .width) (s .args .wide .now)) (s .args .p .n) (s .args .p .beam) (s .args .start)) = subst (λ (z : ℕ). Walks (s .args .p .n) z (s .args .epoch) (s .args .p .beam) (s .args .words .now) (s .args .floats .now) (g .last .0) (g .last .1 .0) (g .result .epoch) (g .result .visited) (g .result .frontier) (g .result .work) (greedy (fromQuery (s .args .p .dim) (s .args .vectors .now) (s .args .query .now)) (row (s .args .p .width) (s .args .wide .now)) (s .args .p .n) (s .args .p .beam) (s .args .start))) (s .pre .0 .logs) (g .ensures) in
+    grown-walk (s .args .p .n) (s .args .p .width) (s .args .p .beam) (s .args .wide .now) (fromQuery (s .args .p .dim) (s .args .vectors .now) (s .args .query .now)) (s .args .start) (s .pre .1 .1) (s .pre .0 .rows) (s .args .epoch) (s .args .words .now) (g .last .0) (s .args .floats .now) (g .last .1 .0) (g .result .epoch) (g .result .visited) (g .result .frontier) (g .result .work) k (s .args .stamp) (s .args .len) (s .pre .1 .0 .word-room) (s .pre .1 .0 .float-room) (a .last .0) (a .last .1 .0) (a .result) (a .ensures)
+
+pub add-walk-spec : {M : Type 1} → statement M
+add-walk-spec =
+    tie.close (tie.spec greedy-requires add-visited-requires same-length same-length-2 returns)

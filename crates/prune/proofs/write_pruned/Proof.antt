@@ -1,0 +1,58 @@
+use mathlib.Core.Path.{_≡_, refl, sym, ap, _∙_, subst}
+use mathlib.Core.Logic.{⊎-elim}
+use Prim.Native.Nat.{ℕ, suc, _+_, _-_, _*_, _≤_, _<_}
+use native.Mathlib.Omega.{arith}
+use lib.ListN.{length, getD, set, take, drop, length-set}
+use lib.ListN.{replicate}
+use Rattle.definition.specs.Floats.{nought}
+use Rattle.prune.proofs.Filling.{written}
+use borrow.Author.Needs.{needs}
+use Rattle.prune.proofs.write_pruned.Statement.{statement}
+use Rattle.prune.proofs.write_pruned.Tie as tie
+use Rattle.prune.proofs.write_pruned.Reads as reads
+use Rattle.prune.proofs.write_pruned.Lts as lts
+use Rattle.laws.proofs.clear_floats.Reads as clear-floats-reads
+use Rattle.prune.proofs.pad_row.Reads as pad-row-reads
+use Rattle.prune.proofs.take_rounds.Reads as take-rounds-reads
+
+-- src/lib.rt:203:5
+clear-floats-requires : tie.Need-clear-floats-requires
+clear-floats-requires c κs = search needs
+
+-- src/lib.rt:204:9
+take-rounds-requires : tie.Need-take-rounds-requires
+take-rounds-requires c κs = search needs
+
+-- src/lib.rt:205:5
+pad-row-requires : tie.Need-pad-row-requires
+pad-row-requires c κs = search needs
+
+-- src/lib.rt:189:1
+same-length : tie.Need-same-length
+same-length c = search needs
+
+-- src/lib.rt:189:1
+same-length-2 : tie.Need-same-length-2
+same-length-2 c = search needs
+
+-- src/lib.rt:189:1
+returns : tie.Need-returns
+unfolding nought
+returns c =
+    let s = c .before .before .before .before .before .before .before .before .before .before .before .before .before .before .before .before .before .before .before .before in
+    let k = c .before .before .before .before .before .before .before .before .before .before .before .before .before .clear-floats in
+    let r = c .before .before .before .before .before .before .before .before .take-rounds in
+    let p = c .before .before .pad-row in
+    written (s .args .dim) (s .args .vectors .now) (s .args .ids .now) (s .args .dists .now) (s .args .degree) (s .args .alpha) (k .last .0) (r .last .1 .1 .1 .1 .1 .0) (p .last .0) (r .result) (length (s .args .row .now))
+    (s .pre .0 .same) (s .pre .1 .1) (r .kept .1 .1 .1 .1 .1 .0) (k .ensures ∙ ap (λ (n : ℕ). replicate n nought) (s .pre .1 .0)) (r .ensures) (p .ensures)
+
+pub write-pruned-spec : {M : Type 1} → statement M
+write-pruned-spec =
+    tie.close
+    (tie.spec
+    clear-floats-requires
+    take-rounds-requires
+    pad-row-requires
+    same-length
+    same-length-2
+    returns)

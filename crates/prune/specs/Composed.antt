@@ -1,0 +1,84 @@
+-- The candidates that `choose` leaves may be measured, and the row pruned from them is the definition's.
+use mathlib.Core.Path.{_≡_, refl, sym, ap, ap₂, _∙_, subst}
+use mathlib.Core.Bool.{Bool, true, false, cond}
+use mathlib.Core.List.{List, [], _∷_, _++_}
+use Prim.Native.Nat.{ℕ, zero, suc, _+_, _-_, _*_, _≤_, _<_}
+use native.Mathlib.Omega.{arith}
+use lib.Ieee.{Float}
+use lib.ListN.{length, take, drop, length-drop}
+use lib.Seq.{length-take-le, drop-drop}
+use borrow.Rule.Slice.PartMut.{putMid}
+use Rattle.definition.specs.Lists.{sort, isIn}
+use Rattle.definition.specs.Beam.{Item, item, nearer}
+use Rattle.definition.specs.Metric.{between}
+use Rattle.definition.specs.Prune.{fresh, cut, candidates, prunedFrom, prune}
+use Rattle.definition.specs.Tables.{padded}
+use Rattle.whole.specs.Whole.{IsWhole}
+use Rattle.metric.specs.Exact.{VectorIn}
+use Rattle.items.specs.Items.{All, itemsOf}
+use Rattle.items.specs.Held.{all-take, items-ids, ids-items}
+use Rattle.items.specs.Sorting.{all-sort}
+use Rattle.pool.specs.Says.{Distinct, Pool, Chosen}
+use Rattle.prune.specs.Says.{Measurable, Written, Stretched}
+
+all-fresh : (P : Item → Type 0) (seen : List ℕ) (l : List Item) → All P l → All P (fresh seen l)
+unfolding fresh
+all-fresh P seen [] a = tt
+all-fresh P seen (c ∷ cs) a = go (isIn (c .id) seen) (all-fresh P seen cs (a .1)) (all-fresh P (c .id ∷ seen) cs (a .1))
+  where
+    go : (b : Bool) → All P (fresh seen cs) → All P (fresh (c .id ∷ seen) cs) → All P (cond b (fresh seen cs) (c ∷ fresh (c .id ∷ seen) cs))
+    go true p q = p
+    go false p q = (a .0, q)
+
+all-candidates : (P : Item → Type 0) (node : ℕ) (l : List Item) → All P l → All P (candidates node l)
+unfolding candidates
+all-candidates P node l a = all-fresh P (node ∷ []) (take cut (sort nearer l)) (all-take P cut (sort nearer l) (all-sort P l a))
+
+pub as-pool : {dim : ℕ} {vectors ids : List ℕ} {dists : List Float} → Measurable dim vectors ids dists → Pool ids dists
+as-pool m = record { same = m .same; wholes = m .wholes }
+
+module _ (dim : ℕ) (vectors ids : List ℕ) (dists : List Float) (node : ℕ) (m : Measurable dim vectors ids dists) (apart : Distinct ids) (ci : List ℕ) (cd : List Float) (r : ℕ) (ch : Chosen ids dists node ci cd r) (ni : 750 ≤ length ci) (nd : 750 ≤ length cd) where
+  zero-off : r - 0 ≡ r
+  zero-off = omega arith
+
+  pub front-length : length (take (r - 0) (drop 0 ci)) ≡ r
+  front-length = length-take-le (r - 0) ci (omega (arith, ch .few)) ∙ zero-off
+
+  items-are : itemsOf (take (r - 0) (drop 0 ci)) (take (r - 0) (drop 0 cd)) ≡ candidates node (itemsOf ids dists)
+  items-are = ap (λ (k : ℕ). itemsOf (take k ci) (take k cd)) zero-off ∙ ch .items apart
+
+  pub measurable : Measurable dim vectors (take (r - 0) (drop 0 ci)) (take (r - 0) (drop 0 cd))
+  measurable =
+      let e : length (take (r - 0) (drop 0 ci)) ≡ length (take (r - 0) (drop 0 cd)) = front-length ∙ sym (length-take-le (r - 0) cd (omega (arith, ch .few)) ∙ zero-off) in
+      record {
+        same = e;
+        narrow = m .narrow;
+        rows = ids-items (VectorIn dim vectors) (take (r - 0) (drop 0 ci)) (take (r - 0) (drop 0 cd)) e
+            (subst (All (λ (c : Item). VectorIn dim vectors (c .id))) (sym items-are) (all-candidates (λ (c : Item). VectorIn dim vectors (c .id)) node (itemsOf ids dists) (items-ids (VectorIn dim vectors) ids dists (m .rows))));
+        wholes = subst (λ (k : ℕ). All IsWhole (take k cd)) (sym zero-off) (ch .wholes);
+      }
+
+  pub pruned : (row : List ℕ) (k width degree : ℕ) (alpha : Float) → Written row k width (prunedFrom (between dim vectors) degree alpha (itemsOf (take (r - 0) (drop 0 ci)) (take (r - 0) (drop 0 cd))))
+      → Written row k width (prune (between dim vectors) degree alpha node (itemsOf ids dists))
+  unfolding prune
+  pruned row k width degree alpha w = subst (λ (l : List Item). Written row k width (prunedFrom (between dim vectors) degree alpha l)) items-are w
+
+sub-of : (a d : ℕ) → (a + d) - a ≡ d
+sub-of a d = omega arith
+
+pub stretch-length : (table : List ℕ) (place width : ℕ) → place * width + width ≤ length table → length (take ((place * width + width) - place * width) (drop (place * width) table)) ≡ width
+stretch-length table place width h =
+    length-take-le ((place * width + width) - place * width) (drop (place * width) table) (omega (arith, length-drop (place * width) table)) ∙ sub-of (place * width) width
+
+-- the part came back as the row
+pub stretched : (table row : List ℕ) (place width r : ℕ) (ids : List ℕ) → place * width + width ≤ length table
+    → Written row r (length (take ((place * width + width) - place * width) (drop (place * width) table))) ids
+    → Stretched table (putMid (place * width) ((place * width + width) - place * width) table row) place width r ids
+stretched table row place width r ids h w =
+    let n = stretch-length table place width h in
+    record {
+      count = w .count;
+      words =
+          ap₂ (λ (l : List ℕ) (k : ℕ). take (place * width) table ++ (l ++ drop k (drop (place * width) table))) (w .words ∙ ap (λ (k : ℕ). padded k ids) n) (sub-of (place * width) width)
+          ∙ ap (λ (l : List ℕ). take (place * width) table ++ (padded width ids ++ l)) (drop-drop width (place * width) table);
+    }

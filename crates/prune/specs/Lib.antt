@@ -1,0 +1,4 @@
+pub mod Says
+pub mod Lent
+pub mod Composed
+pub mod Stretch

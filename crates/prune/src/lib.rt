@@ -1,0 +1,271 @@
+// Part 5, the rounds: which of the candidates become the row, and the writer of the row.
+use metric::from_query;
+use pool::choose;
+ghost use mathlib.Core.Path.{_≡_};
+ghost use mathlib.Core.List.{_++_};
+ghost use Prim.Native.Nat.{ℕ, _+_, _-_, _*_, _≤_, _<_};
+ghost use lib.ListN.{length, take, drop, replicate};
+ghost use Rattle.definition.specs.Floats.{nought, larger};
+ghost use Rattle.definition.specs.Metric.{between};
+ghost use Rattle.definition.specs.Prune.{targetOf, increment, nextAlpha, prunedFrom, prune};
+ghost use Rattle.definition.specs.Tables.{pad, padded};
+ghost use Rattle.metric.specs.Exact.{VectorIn};
+ghost use Rattle.items.specs.Items.{itemsOf};
+ghost use Rattle.pool.specs.Says.{Distinct};
+ghost use Rattle.prune.specs.Says.{quotientF, Measurable, shadedFrom, Shaded, roundsOf, Taken, Written, Stretched};
+
+// f32::MAX
+const LARGEST: f32 = 3.40282347e38;
+
+// What no id is: the padding word.
+const PADDING: u32 = 4294967295;
+
+// An id as an index.
+fn wide(x: u32) -> usize
+    ensures { λ r. ⌜ r ≡ x ⌝ }
+{
+    x as usize
+}
+
+// max(alpha, 1); a NaN acts as 1.
+fn target_of(alpha: f32) -> f32
+    ensures { λ r. ⌜ r ≡ targetOf alpha ⌝ }
+{
+    if 1.0 < alpha { alpha } else { 1.0 }
+}
+
+// min(target, 1.2)
+fn increment_of(target: f32) -> f32
+    ensures { λ r. ⌜ r ≡ increment target ⌝ }
+{
+    if 1.2 < target { 1.2 } else { target }
+}
+
+// min(current x increment, target)
+fn next_alpha(target: f32, current: f32) -> f32
+    ensures { λ r. ⌜ r ≡ nextAlpha target current ⌝ }
+{
+    let raised = current * increment_of(target);
+    if target < raised { target } else { raised }
+}
+
+// The quotient of a candidate's distance by its distance to the taken one.
+fn quotient_of(dist: f32, apart: f32) -> f32
+    ensures { λ r. ⌜ r ≡ quotientF dist apart ⌝ }
+{
+    if apart == 0.0 { LARGEST } else { dist / apart }
+}
+
+// The larger of a factor and that quotient.
+fn raised(factor: f32, dist: f32, apart: f32) -> f32
+    ensures { λ r. ⌜ r ≡ larger factor (quotientF dist apart) ⌝ }
+{
+    let q = quotient_of(dist, apart);
+    if factor < q { q } else { factor }
+}
+
+// Every candidate from place `from` on whose factor isn't above target is shaded by the taken entry, whose vector is `query`.
+fn shade_rest(
+    vectors: &[u8],
+    dim: usize,
+    query: &[u8],
+    ids: &[u32],
+    dists: &[f32],
+    factors: &mut [f32],
+    from: usize,
+    target: f32,
+)
+    requires { ⌜ Measurable dim (now vectors) (now ids) (now dists) ⌝ }
+    requires { ⌜ (length (now factors) ≡ length (now ids)) × (from ≤ length (now ids)) × (length (now query) ≡ dim) ⌝ }
+    ensures { λ _. ⌜ Shaded dim (now (vectors .entry)) (now (query .entry)) (now (ids .entry)) (now (dists .entry)) target from (now (factors .entry)) (now (factors .exit)) ⌝ }
+{
+    let m = ids.len();
+    let mut j = from;
+    while j < m {
+        let factor = factors[j];
+        if target < factor {} else {
+            let other = wide(ids[j]);
+            let apart = from_query(dim, vectors, query, other);
+            factors[j] = raised(factor, dists[j], apart);
+        }
+        j += 1;
+    }
+}
+
+// The same, for the taken entry by its id: its vector is lent once for all.
+fn shade_later(
+    vectors: &[u8],
+    dim: usize,
+    ids: &[u32],
+    dists: &[f32],
+    factors: &mut [f32],
+    from: usize,
+    taken: usize,
+    target: f32,
+)
+    requires { ⌜ Measurable dim (now vectors) (now ids) (now dists) ⌝ }
+    requires { ⌜ (length (now factors) ≡ length (now ids)) × (from ≤ length (now ids)) ⌝ }
+    requires { ⌜ VectorIn dim (now vectors) taken ⌝ }
+    ensures { λ _. ⌜ now (factors .exit) ≡ shadedFrom dim (now (vectors .entry)) (now (ids .entry)) (now (dists .entry)) target taken from (now (factors .entry)) ⌝ }
+{
+    let at = taken * dim;
+    let end = at + dim;
+    shade_rest(
+        vectors,
+        dim,
+        &vectors[at..end],
+        ids,
+        dists,
+        factors,
+        from,
+        target,
+    );
+}
+
+// The rounds over the candidates: the ids taken go to the front of the row. Returns how many there are.
+fn take_rounds(
+    vectors: &[u8],
+    dim: usize,
+    ids: &[u32],
+    dists: &[f32],
+    factors: &mut [f32],
+    row: &mut [u32],
+    degree: usize,
+    alpha: f32,
+) -> usize
+    requires { ⌜ Measurable dim (now vectors) (now ids) (now dists) ⌝ }
+    requires { ⌜ (length (now factors) ≡ length (now ids)) × (degree ≤ length (now row)) ⌝ }
+    ensures { λ r. ⌜ Taken (now (row .exit)) r degree (roundsOf dim (now (vectors .entry)) (now (ids .entry)) (now (dists .entry)) degree alpha (now (factors .entry))) ⌝ }
+{
+    let m = ids.len();
+    let target = target_of(alpha);
+    let mut current = 1.0;
+    let mut count = 0;
+    let mut round: usize = 0;
+    'rounds: loop {
+        let mut i = 0;
+        while i < m {
+            if degree <= count {
+                break 'rounds;
+            }
+            if current < factors[i] {} else {
+                let id = ids[i];
+                row[count] = id;
+                count += 1;
+                factors[i] = LARGEST;
+                let taken = wide(id);
+                shade_later(vectors, dim, ids, dists, factors, i + 1, taken, target);
+            }
+            i += 1;
+        }
+        round += 1;
+        if 9 <= round {
+            break;
+        }
+        if current < target {
+            current = next_alpha(target, current);
+        } else {
+            break;
+        }
+    }
+    count
+}
+
+// Padding from place `from` on.
+fn pad_row(row: &mut [u32], from: usize)
+    requires { ⌜ from ≤ length (now row) ⌝ }
+    ensures { λ _. ⌜ now (row .exit) ≡ take from (now (row .entry)) ++ replicate (length (now (row .entry)) - from) pad ⌝ }
+{
+    let mut i = from;
+    while i < row.len() {
+        row[i] = PADDING;
+        i += 1;
+    }
+}
+
+// The writer: the row that pruning gives from these candidates, then padding. Returns how many ids there are.
+pub fn write_pruned(
+    vectors: &[u8],
+    dim: usize,
+    ids: &[u32],
+    dists: &[f32],
+    factors: &mut [f32],
+    row: &mut [u32],
+    degree: usize,
+    alpha: f32,
+) -> usize
+    requires { ⌜ Measurable dim (now vectors) (now ids) (now dists) ⌝ }
+    requires { ⌜ (length (now factors) ≡ length (now ids)) × (degree ≤ length (now row)) ⌝ }
+    ensures { λ r. ⌜ Written (now (row .exit)) r (length (now (row .entry))) (prunedFrom (between dim (now (vectors .entry))) degree alpha (itemsOf (now (ids .entry)) (now (dists .entry)))) ⌝ }
+{
+    laws::clear_floats(factors);
+    let count = take_rounds(vectors, dim, ids, dists, factors, row, degree, alpha);
+    pad_row(row, count);
+    count
+}
+
+// Part 5 whole: from a pool of ids, each once, with their distances from the node, to the node's row. The pool is left in another order.
+pub fn prune_neighbors(
+    vectors: &[u8],
+    dim: usize,
+    ids: &mut [u32],
+    dists: &mut [f32],
+    node: u32,
+    factors: &mut [f32],
+    row: &mut [u32],
+    degree: usize,
+    alpha: f32,
+) -> usize
+    requires { ⌜ Measurable dim (now vectors) (now ids) (now dists) ⌝ }
+    requires { ⌜ Distinct (now ids) ⌝ }
+    requires { ⌜ (750 ≤ length (now factors)) × (degree ≤ length (now row)) ⌝ }
+    ensures { λ r. ⌜ Written (now (row .exit)) r (length (now (row .entry))) (prune (between dim (now (vectors .entry))) degree alpha node (itemsOf (now (ids .entry)) (now (dists .entry)))) ⌝ }
+{
+    let mut ci = [0u32; 750];
+    let mut cd = [0.0f32; 750];
+    let count = choose(ids, dists, node, &mut ci, &mut cd);
+    write_pruned(
+        vectors,
+        dim,
+        &ci[0..count],
+        &cd[0..count],
+        &mut factors[0..count],
+        row,
+        degree,
+        alpha,
+    )
+}
+
+// The same, into a row's stretch of a lent table: all other words stay as they are.
+pub fn prune_into(
+    table: &mut [u32],
+    place: usize,
+    width: usize,
+    vectors: &[u8],
+    dim: usize,
+    ids: &mut [u32],
+    dists: &mut [f32],
+    node: u32,
+    factors: &mut [f32],
+    degree: usize,
+    alpha: f32,
+) -> usize
+    requires { ⌜ Measurable dim (now vectors) (now ids) (now dists) ⌝ }
+    requires { ⌜ Distinct (now ids) ⌝ }
+    requires { ⌜ (750 ≤ length (now factors)) × (degree ≤ width) × (place * width + width ≤ length (now table)) ⌝ }
+    ensures { λ r. ⌜ Stretched (now (table .entry)) (now (table .exit)) place width r (prune (between dim (now (vectors .entry))) degree alpha node (itemsOf (now (ids .entry)) (now (dists .entry)))) ⌝ }
+{
+    let at = place * width;
+    let end = at + width;
+    prune_neighbors(
+        vectors,
+        dim,
+        ids,
+        dists,
+        node,
+        factors,
+        &mut table[at..end],
+        degree,
+        alpha,
+    )
+}

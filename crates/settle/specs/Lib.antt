@@ -1,0 +1,4 @@
+pub mod Measured
+pub mod Fits
+pub mod Table
+pub mod Given
