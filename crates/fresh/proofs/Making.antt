@@ -37,8 +37,8 @@ use Rattle.pooling.specs.Regions.{poolOf, distsOf, Ground, Holding, Grown, visi
 use Rattle.pooling.proofs.Adding.{pooled-few}
 use Rattle.pooling.proofs.Lending.{dists-length, room-kept}
 use Rattle.fresh.specs.Says.{Layout, Fresh}
-use Rattle.fresh.specs.Basics.{asc-apart}
-use Rattle.fresh.specs.Pruned.{pruned-ids}
+use Rattle.laws.specs.Rising.{asc-apart}
+use Rattle.promises.specs.Pruned.{pruned-ids}
 use Rattle.fresh.specs.Made.{Given, Between, Fit, RowMade, freshRow}
 use Rattle.fresh.proofs.Inner.{part-front, at-inner, part-inner}
 

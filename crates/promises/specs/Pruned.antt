@@ -197,7 +197,7 @@ round-room pair target current (suc room) (c ∷ cs) (f ∷ fs) =
     (suc-le-suc (round-room pair target current room cs (shadeAll pair target (c .id) cs fs)))
 
 -- so the rounds do not either
-rounds-room : (pair : ℕ → ℕ → ℕ) (target : Float) (fuel : ℕ) (current : Float) (room : ℕ) (cs : List Item) (fs : List Float)
+pub rounds-room : (pair : ℕ → ℕ → ℕ) (target : Float) (fuel : ℕ) (current : Float) (room : ℕ) (cs : List Item) (fs : List Float)
     → length (rounds pair target fuel current room cs fs) ≤ room
 unfolding rounds
 rounds-room pair target zero current room cs fs = zero-le

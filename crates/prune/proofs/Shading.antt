@@ -15,7 +15,8 @@ use Rattle.definition.specs.Metric.{whole, vector, fromQuery, between}
 use Rattle.definition.specs.Floats.{nought, largest, divided, larger, above}
 use Rattle.definition.specs.Prune.{quotient, shade, shadeAll}
 use Rattle.whole.specs.Whole.{limit, count, IsWhole}
-use Rattle.whole.specs.Laws.{eq-whole, zero-whole}
+use Rattle.whole.specs.Whole.{zero-whole}
+use Rattle.whole.specs.Order.{eq-whole}
 use Rattle.metric.specs.Exact.{Exact}
 use Rattle.metric.specs.Laws.{between-from, between-sym}
 use Rattle.items.specs.Items.{All, itemsOf}

@@ -19,7 +19,7 @@ use Rattle.metric.specs.Exact.{VectorIn}
 use Rattle.items.specs.Items.{All, itemsOf}
 use Rattle.items.specs.Held.{items-measured, wholes-measured}
 use Rattle.prune.specs.Says.{Measurable, Stretched}
-use Rattle.laws.specs.Laws.{rounds-room}
+use Rattle.promises.specs.Pruned.{rounds-room}
 use Rattle.settle.specs.Measured.{Distances}
 
 abbrev pub setting : ℕ → ℕ → ℕ → List ℕ → ℕ → Float → Setting
