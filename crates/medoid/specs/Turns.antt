@@ -13,7 +13,8 @@ use Rattle.definition.specs.Metric.{whole}
 use Rattle.definition.specs.Floats.{nought}
 use Rattle.definition.specs.Refusals.{badPivots}
 use Rattle.definition.specs.Medoid.{scoreFrom, score, challenge, leader, medoid}
-use Rattle.checks.specs.Bools.{or-false, not-false}
+use Rattle.laws.specs.Truth.{or-neither}
+use Rattle.checks.specs.Bools.{not-false}
 use Rattle.checks.specs.Below.{allBelow}
 
 -- ---- score
@@ -79,4 +80,4 @@ lead-end scores m n id least i h l =
 -- accepted pivots are below n
 pub pivots-good : (n : ℕ) (pivots : List ℕ) → badPivots n pivots ≡ false → allBelow n pivots ≡ true
 unfolding badPivots allBelow
-pivots-good n pivots e = not-false _ (or-false (ltb 8 (length pivots)) _ (or-false (eqb (length pivots) 0) _ e .1) .1)
+pivots-good n pivots e = not-false _ (or-neither (ltb 8 (length pivots)) _ (or-neither (eqb (length pivots) 0) _ e .1) .1)
