@@ -3,8 +3,8 @@ use mathlib.Core.Path.{_≡_, refl, sym, ap, _∙_}
 use mathlib.Core.List.{List, [], _∷_}
 use Prim.Native.Nat.{ℕ, zero, suc, _+_, _-_, _≤_, _<_}
 use native.Mathlib.Omega.{arith}
-use lib.ListN.{length, getD, take, drop}
-use lib.Seq.{take-take, drop-drop, drop-nil, take-nil}
+use lib.ListN.{getD, take, drop}
+use lib.Seq.{take-take, drop-drop, take-nil}
 use Rattle.laws.specs.Parts.{part, part-at}
 
 -- the front of a stretch

@@ -1,26 +1,21 @@
 -- Row by row the fresh rows are the definition's, so the listed nodes with their rows are.
 use mathlib.Core.Path.{_≡_, refl, sym, ap, ap₂, _∙_, subst}
-use mathlib.Core.Bool.{Bool, true, false, not, cond}
 use mathlib.Core.Logic.{_⊎_, inl, inr}
 use mathlib.Core.List.{List, [], _∷_, _++_, List·Memᴰ as Mem, List·Memᴰ·head as here, List·Memᴰ·tail as there}
 use Prim.Native.Nat.{ℕ, zero, suc, _+_, _*_, _-_, _≤_, _<_}
 use native.Mathlib.Nat.{add-sub-cancel-left, eq-or-lt-of-le, suc-mul, zero-mul, add-comm}
-use native.Mathlib.Numerals.{add-one}
 use native.Mathlib.Omega.{arith}
 use borrow.Author.Tests.{eq-eqb, ne-eqb}
-use lib.Dec.{eqb}
 use lib.Ieee.{Float}
 use lib.ListN.{length, getD, take, drop, replicate, length-take, length-drop}
 use lib.Seq.{drop-drop}
-use Rattle.definition.specs.declared.Params.{Params}
 use Rattle.definition.specs.Lists.{keep, groups}
 use Rattle.definition.specs.Tables.{pad, ids, padded}
 use Rattle.definition.specs.Batch.{Setting, Listed, freshOf, freshRows}
-use Rattle.definition.specs.Outcome.{settingOf}
-use Rattle.laws.specs.Parts.{part, part-at, Within, within-none, within-wider, within-trans}
+use Rattle.laws.specs.Parts.{part, part-at, within-none, within-wider, within-trans}
 use Rattle.pooling.specs.Regions.{Below}
 use Rattle.fresh.specs.Listed.{listedAt}
-use Rattle.fresh.specs.Made.{Fit, RowMade, RowsMade, FreshRows, freshRow, freshAt}
+use Rattle.fresh.specs.Made.{Fit, RowMade, RowsMade, freshRow, freshAt}
 
 -- ---- the ids of a padded row
 keep-none : (k : ℕ) → ids (replicate k pad) ≡ []

@@ -1,9 +1,8 @@
 -- From the collected pool to the fresh row of the definition.
 use mathlib.Core.Path.{_≡_, refl, sym, ap, ap₂, _∙_, subst}
-use mathlib.Core.Bool.{Bool, true, false}
-use mathlib.Core.List.{List, [], _∷_, _++_, map, List·Memᴰ as Mem, List·Memᴰ·not-nil as not-nil}
-use Prim.Native.Nat.{ℕ, zero, suc, _+_, _*_, _-_, _≤_, _<_}
-use native.Mathlib.Nat.{add-sub-cancel-left, le-trans}
+use mathlib.Core.List.{List, [], _∷_, _++_, map, List·Memᴰ·not-nil as not-nil}
+use Prim.Native.Nat.{ℕ, zero, suc, _+_, _*_, _≤_, _<_}
+use native.Mathlib.Nat.{le-trans}
 use native.Mathlib.Omega.{arith}
 use borrow.Author.Tests.{ne-eqb}
 use lib.Ieee.{Float}
@@ -13,15 +12,15 @@ use Rattle.definition.specs.declared.Params.{Params}
 use Rattle.definition.specs.Lists.{isIn, joined}
 use Rattle.definition.specs.Metric.{whole, vector, fromQuery, between}
 use Rattle.definition.specs.Beam.{Item}
-use Rattle.definition.specs.Tables.{row, ids, padded}
+use Rattle.definition.specs.Tables.{row, padded}
 use Rattle.definition.specs.Slack.{slack}
 use Rattle.definition.specs.Prune.{measured, candidates, prunedFrom, prune}
-use Rattle.definition.specs.Batch.{Setting, pruneIds, wideRow, wideIds, collected, pool, freshOf}
+use Rattle.definition.specs.Batch.{pruneIds, wideRow, wideIds, collected, pool, freshOf}
 use Rattle.definition.specs.Outcome.{settingOf}
 use Rattle.laws.specs.Apart.{Apart, nobody}
 use Rattle.laws.specs.Members.{Same}
-use Rattle.laws.specs.Rising.{rising-keeps, rising-asc, Asc}
-use Rattle.laws.specs.Parts.{part, Within, part-length, part-at, within-above, within-wider, within-trans}
+use Rattle.laws.specs.Rising.{rising-keeps, rising-asc}
+use Rattle.laws.specs.Parts.{part, part-length, part-at, within-above, within-wider, within-trans}
 use Rattle.whole.specs.Whole.{limit, IsWhole}
 use Rattle.metric.specs.Exact.{VectorIn}
 use Rattle.metric.specs.Laws.{Bytes, metric-small, vector-in}
@@ -30,16 +29,14 @@ use Rattle.items.specs.Held.{items-measured, wholes-measured}
 use Rattle.pool.specs.Says.{Distinct}
 use Rattle.pool.specs.Free.{all-mem, apart-distinct, candidates-free}
 use Rattle.prune.specs.Says.{Measurable}
-use Rattle.greedy.specs.Scratch.{Room, count}
 use Rattle.greedy.proofs.Counting.{count-none}
-use Rattle.pooling.specs.Pooled.{Pooled}
-use Rattle.pooling.specs.Regions.{poolOf, distsOf, Ground, Holding, Grown, visits, pooledIds, Below}
+use Rattle.pooling.specs.Regions.{poolOf, distsOf, Holding, Grown, visits, pooledIds}
 use Rattle.pooling.proofs.Adding.{pooled-few}
 use Rattle.pooling.proofs.Lending.{dists-length, room-kept}
 use Rattle.fresh.specs.Says.{Layout, Fresh}
 use Rattle.laws.specs.Rising.{asc-apart}
 use Rattle.promises.specs.Pruned.{pruned-ids}
-use Rattle.fresh.specs.Made.{Given, Between, Fit, RowMade, freshRow}
+use Rattle.fresh.specs.Made.{Given, Between, Fit, RowMade}
 use Rattle.fresh.proofs.Inner.{part-front, at-inner, part-inner}
 
 -- ---- distances are small
@@ -100,9 +97,6 @@ holding-blank n beam epoch p words floats b =
 module _ (n dim width : ℕ) (params : Params) (vectors wide : List ℕ) (given : Given n dim width params vectors wide) (bytes : Bytes vectors) (start node : ℕ) (seeds : List ℕ)
     (stamp : ℕ) (words₀ words : List ℕ) (floats₀ floats : List Float) (e len : ℕ) (query : List ℕ) (own : query ≡ vector dim vectors node)
     (grown : Grown n (params .beam) stamp words₀ floats₀ 0 words floats e len (pooledIds (fromQuery dim vectors query) width wide n (params .beam) node start seeds) (fromQuery dim vectors query)) where
-  abbrev xs : List ℕ
-  xs = take len (poolOf n words)
-
   from-own : fromQuery dim vectors (vector dim vectors node) ≡ between dim vectors node
   unfolding fromQuery between
   from-own = refl
@@ -146,9 +140,6 @@ module _ (n dim width : ℕ) (params : Params) (vectors wide : List ℕ) (given 
 
   items-are : itemsOf (part (3 * n + 256) (3 * n + 256 + len) words) (part (2 * n + 256) (2 * n + 256 + len) floats) ≡ measured (between dim vectors node) (take len (poolOf n words))
   items-are = ap₂ itemsOf ids-part (dists-part ∙ measured-is) ∙ items-measured (between dim vectors node) (take len (poolOf n words)) small
-
-  abbrev g : Setting
-  g = settingOf n dim vectors params
 
   ids-are : pooledIds (between dim vectors node) (slack (params .degree)) wide n (params .beam) node start seeds
       ≡ wideIds (settingOf n dim vectors params) wide node ++ joined (map (collected (settingOf n dim vectors params) wide node) (start ∷ seeds))

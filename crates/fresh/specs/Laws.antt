@@ -1,10 +1,10 @@
 -- The two parts lent one after the other.
-use mathlib.Core.Path.{_≡_, refl, sym, ap, ap₂, _∙_, subst}
+use mathlib.Core.Path.{_≡_, ap, _∙_}
 use mathlib.Core.List.{List}
-use Prim.Native.Nat.{ℕ, _+_, _-_, _≤_, _<_}
+use Prim.Native.Nat.{ℕ, _+_, _-_, _≤_}
 use native.Mathlib.Omega.{arith}
 use lib.Ieee.{Float}
-use lib.ListN.{length, take, drop}
+use lib.ListN.{length}
 use borrow.Rule.Slice.PartMut.{putMid}
 use Rattle.definition.specs.Tables.{padded}
 use Rattle.prune.specs.Says.{Written}
@@ -14,9 +14,6 @@ use Rattle.laws.specs.Parts.{part, Within, part-length, within-below, within-ab
 -- two parts of one list, a..e and then b..f above it
 module _ {A : Type 0} (l ys zs : List A) (a e b f g : ℕ) (ae : a ≤ e) (eb : e ≤ b) (bf : b ≤ f) (fg : f ≤ g) (gl : g ≤ length l)
     (ny : length ys ≡ length (part a e l)) (nz : length zs ≡ length (part b f (putMid a (e - a) l ys))) where
-  abbrev l₁ : List A
-  l₁ = putMid a (e - a) l ys
-
   one : Within a e l (putMid a (e - a) l ys)
   one = put-within a e l ys ae (omega arith) ny
 
@@ -36,21 +33,21 @@ module _ {A : Type 0} (l ys zs : List A) (a e b f g : ℕ) (ae : a ≤ e) (eb : 
 pub first-length : {A : Type 0} (l ys : List A) (a e b f : ℕ) → a ≤ e → e ≤ length l → f ≤ length l → length ys ≡ length (part a e l) → length (part b f (putMid a (e - a) l ys)) ≡ f - b
 first-length l ys a e b f ae h k n = part-length b f (putMid a (e - a) l ys) (omega (arith, put-within a e l ys ae h n .size))
 
-module _ (words : List ℕ) (floats : List Float) (pa m ra width fa ga : ℕ) (lay : Layout (length words) (length floats) pa m ra width fa ga)
+module _ (words : List ℕ) (floats : List Float) (poolAt len rowAt width distsAt factorsAt : ℕ) (lay : Layout (length words) (length floats) poolAt len rowAt width distsAt factorsAt)
     (ys : List ℕ) (ds : List Float) (row : List ℕ) (fs : List Float) (count r : ℕ) (ids : List ℕ) (few : count ≤ 750)
-    (ny : length ys ≡ length (part pa (pa + m) words)) (nd : length ds ≡ length (part fa (fa + m) floats))
-    (nr : length row ≡ length (part ra (ra + width) (putMid pa ((pa + m) - pa) words ys)))
-    (nf : length fs ≡ length (part ga (ga + count) (putMid fa ((fa + m) - fa) floats ds)))
-    (w : Written row r (length (part ra (ra + width) (putMid pa ((pa + m) - pa) words ys))) ids) where
-  pub fresh : Fresh words (putMid ra ((ra + width) - ra) (putMid pa ((pa + m) - pa) words ys) row) floats (putMid ga ((ga + count) - ga) (putMid fa ((fa + m) - fa) floats ds) fs) pa m ra width fa ga r ids
+    (ny : length ys ≡ length (part poolAt (poolAt + len) words)) (nd : length ds ≡ length (part distsAt (distsAt + len) floats))
+    (nr : length row ≡ length (part rowAt (rowAt + width) (putMid poolAt ((poolAt + len) - poolAt) words ys)))
+    (nf : length fs ≡ length (part factorsAt (factorsAt + count) (putMid distsAt ((distsAt + len) - distsAt) floats ds)))
+    (w : Written row r (length (part rowAt (rowAt + width) (putMid poolAt ((poolAt + len) - poolAt) words ys))) ids) where
+  pub fresh : Fresh words (putMid rowAt ((rowAt + width) - rowAt) (putMid poolAt ((poolAt + len) - poolAt) words ys) row) floats (putMid factorsAt ((factorsAt + count) - factorsAt) (putMid distsAt ((distsAt + len) - distsAt) floats ds) fs) poolAt len rowAt width distsAt factorsAt r ids
   fresh =
-      let wide : length (part ra (ra + width) (putMid pa ((pa + m) - pa) words ys)) ≡ width =
-      first-length words ys pa (pa + m) ra (ra + width) (omega arith) (omega (arith, lay .pool-row, lay .row-end)) (lay .row-end) ny ∙ omega arith in
+      let wide : length (part rowAt (rowAt + width) (putMid poolAt ((poolAt + len) - poolAt) words ys)) ≡ width =
+      first-length words ys poolAt (poolAt + len) rowAt (rowAt + width) (omega arith) (omega (arith, lay .pool-row, lay .row-end)) (lay .row-end) ny ∙ omega arith in
       record {
         count = w .count;
-        row = both-second words ys row pa (pa + m) ra (ra + width) (ra + width) (omega arith) (lay .pool-row) (omega arith) (omega arith) (lay .row-end) ny nr ∙ w .words ∙ ap (λ (k : ℕ). padded k ids) wide;
-        words-kept = both-kept words ys row pa (pa + m) ra (ra + width) (ra + width) (omega arith) (lay .pool-row) (omega arith) (omega arith) (lay .row-end) ny nr;
-        words-between = both-between words ys row pa (pa + m) ra (ra + width) (ra + width) (omega arith) (lay .pool-row) (omega arith) (omega arith) (lay .row-end) ny nr;
-        floats-kept = both-kept floats ds fs fa (fa + m) ga (ga + count) (ga + 750) (omega arith) (lay .dists-factors) (omega arith) (omega arith) (lay .factors-end) nd nf;
-        floats-between = both-between floats ds fs fa (fa + m) ga (ga + count) (ga + 750) (omega arith) (lay .dists-factors) (omega arith) (omega arith) (lay .factors-end) nd nf;
+        row = both-second words ys row poolAt (poolAt + len) rowAt (rowAt + width) (rowAt + width) (omega arith) (lay .pool-row) (omega arith) (omega arith) (lay .row-end) ny nr ∙ w .words ∙ ap (λ (k : ℕ). padded k ids) wide;
+        words-kept = both-kept words ys row poolAt (poolAt + len) rowAt (rowAt + width) (rowAt + width) (omega arith) (lay .pool-row) (omega arith) (omega arith) (lay .row-end) ny nr;
+        words-between = both-between words ys row poolAt (poolAt + len) rowAt (rowAt + width) (rowAt + width) (omega arith) (lay .pool-row) (omega arith) (omega arith) (lay .row-end) ny nr;
+        floats-kept = both-kept floats ds fs distsAt (distsAt + len) factorsAt (factorsAt + count) (factorsAt + 750) (omega arith) (lay .dists-factors) (omega arith) (omega arith) (lay .factors-end) nd nf;
+        floats-between = both-between floats ds fs distsAt (distsAt + len) factorsAt (factorsAt + count) (factorsAt + 750) (omega arith) (lay .dists-factors) (omega arith) (omega arith) (lay .factors-end) nd nf;
       }

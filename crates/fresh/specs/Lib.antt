@@ -4,3 +4,4 @@ pub mod Laws
 pub mod Listed
 pub mod Made
 pub mod Once
+pub mod Ruled

@@ -2,13 +2,13 @@
 use mathlib.Core.Path.{_≡_}
 use mathlib.Core.Bool.{false}
 use mathlib.Core.List.{List, List·Memᴰ as Mem}
-use Prim.Native.Nat.{ℕ, _+_, _*_, _/_, _≤_, _<_}
+use Prim.Native.Nat.{ℕ, _+_, _*_, _≤_, _<_}
 use lib.Ieee.{Float}
 use lib.ListN.{length, getD, take, drop}
 use Rattle.definition.specs.declared.Params.{Params}
 use Rattle.definition.specs.Floats.{four, above}
 use Rattle.definition.specs.Lists.{groups}
-use Rattle.definition.specs.Tables.{ids, padded}
+use Rattle.definition.specs.Tables.{padded}
 use Rattle.definition.specs.Slack.{slack}
 use Rattle.definition.specs.Batch.{Setting, freshOf, freshRows}
 use Rattle.definition.specs.Outcome.{settingOf}
@@ -16,7 +16,6 @@ use Rattle.laws.specs.Apart.{Apart}
 use Rattle.laws.specs.Parts.{part, Within}
 use Rattle.laws.specs.Words.{Row}
 use Rattle.greedy.specs.Scratch.{Room}
-use Rattle.pooling.specs.Regions.{Below}
 use Rattle.fresh.specs.Listed.{listedAt}
 
 -- the vectors, the parameters and the wide rows of a batch that is accepted; width is the slack

@@ -13,7 +13,7 @@ use Rattle.definition.specs.Tables.{pad, padded}
 use Rattle.definition.specs.Batch.{Setting}
 use Rattle.laws.specs.Apart.{Apart, nobody, another}
 use Rattle.laws.specs.Parts.{part-at}
-use Rattle.fresh.specs.Made.{Between, Fit, RowsMade, freshRow, freshAt}
+use Rattle.fresh.specs.Made.{Between, Fit, RowsMade, freshAt}
 
 mem-at : (xs : List ℕ) (i : ℕ) → i < length xs → Mem (getD xs i 0) xs
 mem-at [] i h = absurd (omega arith)

@@ -1,23 +1,23 @@
 -- A row pruned within two lent slices that hold the pool, the factors and the row.
 use mathlib.Core.Path.{_≡_}
 use mathlib.Core.List.{List}
-use Prim.Native.Nat.{ℕ, _+_, _-_, _≤_}
+use Prim.Native.Nat.{ℕ, _+_, _≤_}
 use lib.Ieee.{Float}
-use lib.ListN.{length, take, drop}
+use lib.ListN.{length}
 use Rattle.definition.specs.Tables.{padded}
 use Rattle.laws.specs.Parts.{part, Within}
 
--- pool ids at pa, the row at ra; pool distances at fa, factors at ga
-pub record Layout (words floats pa m ra width fa ga : ℕ) : Type 0 where
-  pub pool-row : pa + m ≤ ra
-  pub row-end : ra + width ≤ words
-  pub dists-factors : fa + m ≤ ga
-  pub factors-end : ga + 750 ≤ floats
+-- where the pool's ids and the row lie in words, its distances and the factors in floats
+pub record Layout (words floats poolAt len rowAt width distsAt factorsAt : ℕ) : Type 0 where
+  pub pool-row : poolAt + len ≤ rowAt
+  pub row-end : rowAt + width ≤ words
+  pub dists-factors : distsAt + len ≤ factorsAt
+  pub factors-end : factorsAt + 750 ≤ floats
 
-pub record Fresh (words₀ words : List ℕ) (floats₀ floats : List Float) (pa m ra width fa ga r : ℕ) (ids : List ℕ) : Type 0 where
+pub record Fresh (words₀ words : List ℕ) (floats₀ floats : List Float) (poolAt len rowAt width distsAt factorsAt r : ℕ) (ids : List ℕ) : Type 0 where
   pub count : r ≡ length ids
-  pub row : part ra (ra + width) words ≡ padded width ids
-  pub words-kept : Within pa (ra + width) words₀ words
-  pub words-between : part (pa + m) ra words ≡ part (pa + m) ra words₀
-  pub floats-kept : Within fa (ga + 750) floats₀ floats
-  pub floats-between : part (fa + m) ga floats ≡ part (fa + m) ga floats₀
+  pub row : part rowAt (rowAt + width) words ≡ padded width ids
+  pub words-kept : Within poolAt (rowAt + width) words₀ words
+  pub words-between : part (poolAt + len) rowAt words ≡ part (poolAt + len) rowAt words₀
+  pub floats-kept : Within distsAt (factorsAt + 750) floats₀ floats
+  pub floats-between : part (distsAt + len) factorsAt floats ≡ part (distsAt + len) factorsAt floats₀

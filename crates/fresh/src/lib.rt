@@ -1,13 +1,14 @@
-// Part 5 within the batch's scratch: the pool, the factors and the fresh row lie in the two lent slices.
+// Part 6, the fresh rows: for each listed node its pool, and the row pruned from it, within the two slices of scratch.
 use definition::Params;
 use greedy::Plan;
 use pool::choose;
+use pooling::Collected;
 use pooling::collect_pool;
 use prune::write_pruned;
 ghost use mathlib.Core.Path.{_≡_};
-ghost use Prim.Native.Nat.{ℕ, _+_, _-_, _*_, _≤_, _<_};
-ghost use lib.ListN.{length, take, drop};
-ghost use Rattle.definition.specs.Metric.{between};
+ghost use Prim.Native.Nat.{_+_, _*_, _≤_, _<_};
+ghost use lib.ListN.{length};
+ghost use Rattle.definition.specs.Metric.{vector, fromQuery, between};
 ghost use Rattle.definition.specs.Prune.{prune};
 ghost use Rattle.laws.specs.Parts.{part};
 ghost use Rattle.items.specs.Items.{itemsOf};
@@ -15,54 +16,101 @@ ghost use Rattle.pool.specs.Says.{Distinct};
 ghost use Rattle.prune.specs.Says.{Measurable};
 ghost use Rattle.definition.specs.Batch.{freshOf};
 ghost use Rattle.definition.specs.Outcome.{settingOf};
-ghost use Rattle.pooling.specs.Regions.{Below};
+ghost use Rattle.pooling.specs.Regions.{Below, Grown, pooledIds};
 ghost use Rattle.fresh.specs.Made.{Given, Between, RowMade, FreshRows};
 ghost use Rattle.fresh.specs.Says.{Layout, Fresh};
 
-// The pool's m ids at pa of words and distances at fa of floats; the row goes to ra of words; 750 floats from ga on are for the factors.
+// The row of a node from its pool: len ids from `pool` on in words, and their distances from `dists` on in floats. The row goes to words
+// from `row` on; 750 floats from `factors` on are for the factors.
 fn prune_fresh(
     vectors: &[u8],
     dim: usize,
     words: &mut [u32],
     floats: &mut [f32],
-    pa: usize,
-    m: usize,
-    ra: usize,
+    pool: usize,
+    len: usize,
+    row: usize,
     width: usize,
-    fa: usize,
-    ga: usize,
+    dists: usize,
+    factors: usize,
     node: u32,
     degree: usize,
     alpha: f32,
 ) -> usize
-    requires { ⌜ Layout (length (now words)) (length (now floats)) pa m ra width fa ga ⌝ }
-    requires { ⌜ Measurable dim (now vectors) (part pa (pa + m) (now words)) (part fa (fa + m) (now floats)) ⌝ }
-    requires { ⌜ Distinct (part pa (pa + m) (now words)) ⌝ }
+    requires { ⌜ Layout (length (now words)) (length (now floats)) pool len row width dists factors ⌝ }
+    requires { ⌜ Measurable dim (now vectors) (part pool (pool + len) (now words)) (part dists (dists + len) (now floats)) ⌝ }
+    requires { ⌜ Distinct (part pool (pool + len) (now words)) ⌝ }
     requires { ⌜ degree ≤ width ⌝ }
-    ensures { λ r. ⌜ Fresh (now (words .entry)) (now (words .exit)) (now (floats .entry)) (now (floats .exit)) pa m ra width fa ga r (prune (between dim (now (vectors .entry))) degree alpha node (itemsOf (part pa (pa + m) (now (words .entry))) (part fa (fa + m) (now (floats .entry))))) ⌝ }
+    ensures { λ r. ⌜ Fresh (now (words .entry)) (now (words .exit)) (now (floats .entry)) (now (floats .exit)) pool len row width dists factors r (prune (between dim (now (vectors .entry))) degree alpha node (itemsOf (part pool (pool + len) (now (words .entry))) (part dists (dists + len) (now (floats .entry))))) ⌝ }
 {
     let mut ci = [0u32; 750];
     let mut cd = [0.0f32; 750];
-    let pe = pa + m;
-    let fe = fa + m;
+    let pool_end = pool + len;
+    let dists_end = dists + len;
     let count = choose(
-        &mut words[pa..pe],
-        &mut floats[fa..fe],
+        &mut words[pool..pool_end],
+        &mut floats[dists..dists_end],
         node,
         &mut ci,
         &mut cd,
     );
-    let re = ra + width;
-    let ge = ga + count;
+    let row_end = row + width;
+    let factors_end = factors + count;
     write_pruned(
         vectors,
         dim,
         &ci[0..count],
         &cd[0..count],
-        &mut floats[ga..ge],
-        &mut words[ra..re],
+        &mut floats[factors..factors_end],
+        &mut words[row..row_end],
         degree,
         alpha,
+    )
+}
+
+// The pool of one listed node, the p-th: its vector is the query, and its stamp is one more than p.
+fn node_pool(
+    words: &mut [u32],
+    floats: &mut [f32],
+    vectors: &[u8],
+    wide: &[u32],
+    n: usize,
+    dim: usize,
+    width: usize,
+    params: Params,
+    epoch: u32,
+    p: usize,
+    node: usize,
+    start: u32,
+    seeds: &[u32],
+) -> Collected
+    requires { ⌜ Given n dim width params (now vectors) (now wide) ⌝ }
+    requires { ⌜ Between n (params .beam) epoch p (now words) (now floats) ⌝ }
+    requires { ⌜ (p < 256) × (node < n) × (start < n) × Below n (now seeds) ⌝ }
+    ensures { λ r. ⌜ Grown n (params .beam) (p + 1) (now (words .entry)) (now (floats .entry)) 0 (now (words .exit)) (now (floats .exit)) (r .epoch) (r .len) (pooledIds (fromQuery dim (now (vectors .entry)) (vector dim (now (vectors .entry)) node)) width (now (wide .entry)) n (params .beam) node start (now (seeds .entry))) (fromQuery dim (now (vectors .entry)) (vector dim (now (vectors .entry)) node)) ⌝ }
+{
+    let at = node * dim;
+    let end = at + dim;
+    let plan = Plan {
+        n,
+        dim,
+        width,
+        beam: params.beam,
+        log: n,
+    };
+    let stamp = (p + 1) as u32;
+    collect_pool(
+        words,
+        floats,
+        vectors,
+        &vectors[at..end],
+        wide,
+        plan,
+        epoch,
+        stamp,
+        node,
+        start,
+        seeds,
     )
 }
 
@@ -89,25 +137,17 @@ fn fresh_row(
     ensures { λ r. ⌜ Between n (params .beam) r (p + 1) (now (words .exit)) (now (floats .exit)) ⌝ }
 {
     let u = node as usize;
-    let at = u * dim;
-    let end = at + dim;
-    let plan = Plan {
-        n,
-        dim,
-        width,
-        beam: params.beam,
-        log: n,
-    };
-    let stamp = (p + 1) as u32;
-    let c = collect_pool(
+    let c = node_pool(
         words,
         floats,
         vectors,
-        &vectors[at..end],
         wide,
-        plan,
+        n,
+        dim,
+        width,
+        params,
         epoch,
-        stamp,
+        p,
         u,
         start,
         seeds,

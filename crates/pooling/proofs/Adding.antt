@@ -3,7 +3,7 @@ use mathlib.Core.Path.{_≡_, refl, sym, ap, ap₂, _∙_, subst}
 use mathlib.Core.Logic.{_⊎_, inl, inr}
 use mathlib.Core.Bool.{Bool, true, false, _||_}
 use mathlib.Core.List.{List, [], _∷_, _++_, map, append-nil, List·Memᴰ as Mem}
-use Prim.Native.Nat.{ℕ, zero, suc, _+_, _*_, _-_, _≤_, _<_}
+use Prim.Native.Nat.{ℕ, suc, _+_, _≤_, _<_}
 use native.Mathlib.Numerals.{add-one}
 use native.Mathlib.Nat.{le-of-eq}
 use native.Mathlib.Omega.{arith}
@@ -14,12 +14,11 @@ use lib.ListN.{length, getD, take, drop, set, length-set, length-drop}
 use lib.Seq.{take-suc-set, take-set-le, drop-set-lt, drop-set-add, getD-drop, getD-set-same, getD-set-other}
 use Rattle.definition.specs.Lists.{isIn}
 use Rattle.definition.specs.Metric.{whole}
-use Rattle.laws.specs.Apart.{Apart, nobody}
-use Rattle.laws.specs.Members.{Same}
+use Rattle.laws.specs.Apart.{Apart}
 use Rattle.greedy.specs.Scratch.{count}
-use Rattle.greedy.proofs.Counting.{count-le, count-lt, count-set, count-none, in-snoc}
+use Rattle.greedy.proofs.Counting.{count-le, count-lt, count-set, in-snoc}
 use Rattle.pooling.specs.Pooled.{Pooled, Measured, Added}
-use Rattle.pooling.proofs.Members.{in-mem, not-in, snoc-cases, apart-snoc, same-refl, same-eq, same-absorbs, same-join}
+use Rattle.pooling.proofs.Members.{in-mem, not-in, snoc-cases, apart-snoc, same-eq, same-absorbs, same-join}
 
 map-snoc : (f : ℕ → Float) (xs : List ℕ) (x : ℕ) → map f (xs ++ (x ∷ [])) ≡ map f xs ++ (f x ∷ [])
 map-snoc f [] x = refl
@@ -48,9 +47,6 @@ module _ (n stamp len : ℕ) (pool : List ℕ) (p : Pooled n stamp len pool) whe
 
       pub pooled-room : len < n
       pooled-room = omega (arith, p .counted, marks-length, count-lt stamp (drop n pool) id (omega (arith, marks-length)) mark-new)
-
-      abbrev pool′ : List ℕ
-      pool′ = set (set pool (n + id) stamp) len id
 
       ids-are : take (suc len) (set (set pool (n + id) stamp) len id) ≡ take len pool ++ (id ∷ [])
       ids-are =

@@ -1,7 +1,7 @@
 -- The pool grows: by a row, by a walk, by one walk after another.
 use mathlib.Core.Path.{_≡_, refl, sym, ap, _∙_, subst}
 use mathlib.Core.List.{List, [], _∷_, _++_, map, append-nil, append-assoc}
-use Prim.Native.Nat.{ℕ, suc, _+_, _*_, _-_, _≤_, _<_}
+use Prim.Native.Nat.{ℕ, _+_, _*_, _-_, _≤_, _<_}
 use native.Mathlib.Numerals.{add-one}
 use native.Mathlib.Nat.{add-sub-cancel-left}
 use native.Mathlib.Omega.{arith}
@@ -12,14 +12,14 @@ use borrow.Rule.Slice.PartMut.{putMid}
 use Rattle.definition.specs.Lists.{joined}
 use Rattle.definition.specs.Greedy.{greedy}
 use Rattle.definition.specs.Tables.{row, ids}
-use Rattle.laws.specs.Parts.{part, part-at, Within, within-above, within-wider, within-trans, within-none}
+use Rattle.laws.specs.Parts.{part, part-at, within-above, within-wider, within-trans, within-none}
 use Rattle.laws.specs.Words.{padding, Row}
-use Rattle.greedy.specs.Scratch.{Room, Walks}
-use Rattle.pooling.specs.Pooled.{Pooled, Added}
+use Rattle.greedy.specs.Scratch.{Walks}
+use Rattle.pooling.specs.Pooled.{Added}
 use Rattle.pooling.specs.Regions.{poolOf, distsOf, seenOf, Seen, Filled, Holding, Grown, visits, pooledIds}
 use Rattle.pooling.proofs.Adding.{added-none, added-then}
 use Rattle.pooling.proofs.Lending.{words-lent, floats-lent, added-lent, room-kept}
-use Rattle.pooling.proofs.Visits.{seen-below, seen-known, seen-visits}
+use Rattle.pooling.proofs.Visits.{seen-known, seen-visits}
 
 -- ---- a walk, and what it visited
 module _ (n width beam : ℕ) (table : List ℕ) (d : ℕ → ℕ) (start : ℕ) (low : start < n) (rule : Row n table) (epoch : ℕ) (words₀ words : List ℕ) (floats₀ floats : List Float) (e v f w : ℕ)

@@ -1,18 +1,18 @@
 -- The pool's stretches lent, and come back: what is in them, and that nothing else differs.
-use mathlib.Core.Path.{_≡_, refl, sym, ap, ap₂, _∙_, subst}
+use mathlib.Core.Path.{_≡_, refl, sym, ap, _∙_, subst}
 use mathlib.Core.List.{List, [], _∷_, _++_}
 use Prim.Native.Nat.{ℕ, _+_, _*_, _-_, _≤_, _<_}
 use native.Mathlib.Omega.{arith}
 use native.Mathlib.Numerals.{add-one}
 use lib.Ieee.{Float, nan}
-use lib.ListN.{length, getD, take, drop}
+use lib.ListN.{length, getD, take}
 use lib.Seq.{take-suc}
 use borrow.Rule.Slice.PartMut.{putMid}
 use Rattle.definition.specs.Metric.{whole}
-use Rattle.laws.specs.Parts.{part, Within, part-length, part-at, within-at, within-wider, within-trans, put-part, put-within}
+use Rattle.laws.specs.Parts.{Within, part-length, part-at, within-at, within-trans, put-part, put-within}
 use Rattle.greedy.specs.Scratch.{Room}
 use Rattle.pooling.specs.Pooled.{Pooled, Added}
-use Rattle.pooling.specs.Regions.{poolOf, distsOf, seenOf, Seen, Filled, Holding, Grown}
+use Rattle.pooling.specs.Regions.{poolOf, distsOf, seenOf, Seen, Filled}
 use Rattle.pooling.proofs.Adding.{added-none, added-then}
 
 pub dists-length : (n : ℕ) (floats : List Float) → 3 * n + 256 ≤ length floats → length (distsOf n floats) ≡ n
@@ -21,12 +21,6 @@ dists-length n floats h = part-length (2 * n + 256) (3 * n + 256) floats h ∙ o
 -- pool and distances came back
 module _ (n : ℕ) (words pool : List ℕ) (floats dists : List Float) (wr : 5 * n + 256 ≤ length words) (fr : 3 * n + 256 ≤ length floats)
     (np : length pool ≡ length (poolOf n words)) (nd : length dists ≡ length (distsOf n floats)) where
-  abbrev words′ : List ℕ
-  words′ = putMid (3 * n + 256) ((5 * n + 256) - (3 * n + 256)) words pool
-
-  abbrev floats′ : List Float
-  floats′ = putMid (2 * n + 256) ((3 * n + 256) - (2 * n + 256)) floats dists
-
   pub words-lent : Within (3 * n + 256) (5 * n + 256) words (putMid (3 * n + 256) ((5 * n + 256) - (3 * n + 256)) words pool)
   words-lent = put-within (3 * n + 256) (5 * n + 256) words pool (omega arith) wr np
 

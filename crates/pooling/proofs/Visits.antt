@@ -1,8 +1,8 @@
 -- What a walk visits: entries, each with its distance; and so does its log.
 use mathlib.Core.Path.{_≡_, refl, sym, ap, _∙_, subst}
 use mathlib.Core.Bool.{Bool, true, false, _||_, cond, true≢false}
-use mathlib.Core.List.{List, [], _∷_, _++_, map}
-use Prim.Native.Nat.{ℕ, zero, suc, _+_, _*_, _-_, _≤_, _<_}
+use mathlib.Core.List.{List, [], _∷_, map}
+use Prim.Native.Nat.{ℕ, zero, suc, _+_, _*_, _<_}
 use native.Mathlib.Omega.{arith}
 use borrow.Author.Tests.{eq-eqb}
 use lib.Dec.{eqb}
@@ -18,16 +18,13 @@ use Rattle.laws.specs.Truth.{either}
 use Rattle.laws.specs.Parts.{part, part-at, part-length}
 use Rattle.laws.specs.Words.{padding, Row}
 use Rattle.items.specs.Items.{All}
-use Rattle.items.specs.Held.{all-at, all-append, all-take, all-drop, all-map}
-use Rattle.greedy.specs.Scratch.{Logged, Room, Walks}
+use Rattle.items.specs.Held.{all-at, all-append, all-take, all-drop}
+use Rattle.greedy.specs.Scratch.{Logged, Walks}
 use Rattle.greedy.specs.Cases.{logged-all}
 use Rattle.pooling.specs.Regions.{seenOf, Seen, SeenBelow, visits}
 
 -- P is whatever the start has, and every word of a row that is no padding
 module _ (P : Item → Type 0) (d : ℕ → ℕ) (beam : ℕ) where
-  abbrev Has : ℕ → Type 0
-  Has w = ¬ (w ≡ pad) → P (item (d w) w)
-
   look-all : (s : State) (w : ℕ) → (¬ (w ≡ pad) → P (item (d w) w)) → All P (s .visited) → All P (look d beam s w .visited)
   unfolding look skipped meet
   look-all s w p a = go (eqb w pad) (isIn w (visitedIds s)) refl
@@ -75,9 +72,6 @@ rows-known n width table d r i =
     (all-of (λ (w : ℕ). ¬ (w ≡ padding) → Known n d (item (d w) w)) table (λ k h q. (r k h q, refl))))
 
 module _ (n width beam : ℕ) (table : List ℕ) (d : ℕ → ℕ) (start : ℕ) (low : start < n) (rule : Row n table) where
-  abbrev last : State
-  last = greedy d (row width table) n beam start
-
   visited-known : All (λ (c : Item). (c .id < n) × (c .dist ≡ d (c .id))) (greedy d (row width table) n beam start .visited)
   visited-known = greedy-all (λ (c : Item). (c .id < n) × (c .dist ≡ d (c .id))) d beam (row width table) (rows-known n width table d rule) n start (low, refl)
 

@@ -1,8 +1,8 @@
 -- The pool of one node. Its stretch of words has room for n ids, and then the marks of the n entries; its distances are a stretch of floats.
 -- An entry is in the pool exactly when its mark is the stamp.
 use mathlib.Core.Path.{_≡_}
-use mathlib.Core.List.{List, [], _∷_, _++_, map, List·Memᴰ as Mem}
-use Prim.Native.Nat.{ℕ, _+_, _*_, _≤_, _<_}
+use mathlib.Core.List.{List, _++_, map, List·Memᴰ as Mem}
+use Prim.Native.Nat.{ℕ, _+_, _≤_, _<_}
 use lib.Dec.{eqb}
 use lib.Ieee.{Float}
 use lib.ListN.{length, getD, take, drop}

@@ -1,7 +1,7 @@
 -- The pool in the scratch of a batch over n entries, beside what a walk uses of it.
 -- Words: visited ids from 2n + 256, pool ids from 3n + 256, pool marks from 4n + 256 to 5n + 256. Floats: visited distances from n + 256, pool distances from 2n + 256 to 3n + 256.
 use mathlib.Core.Path.{_≡_}
-use mathlib.Core.List.{List, [], _∷_, _++_, map}
+use mathlib.Core.List.{List, _∷_, _++_, map}
 use Prim.Native.Nat.{ℕ, _+_, _*_, _≤_, _<_}
 use lib.Ieee.{Float, nan}
 use lib.ListN.{length, getD, take}

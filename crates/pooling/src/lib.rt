@@ -2,8 +2,8 @@
 
 use greedy::Plan;
 ghost use mathlib.Core.Path.{_≡_};
-ghost use mathlib.Core.List.{[], _∷_, _++_, map};
-ghost use Prim.Native.Nat.{ℕ, _+_, _*_, _≤_, _<_};
+ghost use mathlib.Core.List.{[], _∷_, map};
+ghost use Prim.Native.Nat.{_+_, _*_, _≤_, _<_};
 ghost use lib.ListN.{length};
 ghost use Rattle.definition.specs.Metric.{whole, fromQuery};
 ghost use Rattle.definition.specs.Lists.{joined};
@@ -89,12 +89,12 @@ fn add_visited(
         let f = n + 256 + k;
         let id = words[w];
         let dist = floats[f];
-        let pa = 3 * n + 256;
-        let pe = 5 * n + 256;
-        let da = 2 * n + 256;
+        let pool_at = 3 * n + 256;
+        let pool_end = 5 * n + 256;
+        let dists_at = 2 * n + 256;
         more = add_once(
-            &mut words[pa..pe],
-            &mut floats[da..pa],
+            &mut words[pool_at..pool_end],
+            &mut floats[dists_at..pool_at],
             n,
             stamp,
             more,
@@ -196,14 +196,14 @@ pub fn collect_pool(
 {
     let n = p.n;
     let width = p.width;
-    let pa = 3 * n + 256;
-    let pe = 5 * n + 256;
-    let da = 2 * n + 256;
+    let pool_at = 3 * n + 256;
+    let pool_end = 5 * n + 256;
+    let dists_at = 2 * n + 256;
     let at = node * width;
     let end = at + width;
     let len = add_row(
-        &mut words[pa..pe],
-        &mut floats[da..pa],
+        &mut words[pool_at..pool_end],
+        &mut floats[dists_at..pool_at],
         n,
         stamp,
         &wide[at..end],

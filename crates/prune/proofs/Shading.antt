@@ -1,27 +1,27 @@
 -- The quotient on whole numbers, and one turn of the loop that shades.
 use mathlib.Core.Path.{_≡_, refl, sym, ap, ap₂, _∙_, subst}
-use mathlib.Core.Bool.{Bool, true, false, cond}
-use mathlib.Core.List.{List, [], _∷_, _++_, append-assoc}
-use Prim.Native.Nat.{ℕ, zero, suc, _+_, _-_, _≤_, _<_, zero-le}
+use mathlib.Core.Bool.{true, false}
+use mathlib.Core.List.{List, append-assoc}
+use Prim.Native.Nat.{ℕ, zero, suc, _+_, _≤_, _<_, zero-le}
 use native.Mathlib.Numerals.{add-one}
 use native.Mathlib.Omega.{arith}
 use lib.Dec.{eqb}
 use borrow.Author.Tests.{ne-eqb}
 use lib.Ieee.{Float, nan, lt, eq}
-use lib.ListN.{length, getD, take, drop, set, length-set, take-append-drop, drop-of-length-le}
+use lib.ListN.{length, getD, set, take-append-drop, drop-of-length-le}
 use lib.Seq.{take-suc-set, drop-set-lt, drop-cons, set-getD}
 use Rattle.definition.specs.Beam.{Item, item}
 use Rattle.definition.specs.Metric.{whole, vector, fromQuery, between}
-use Rattle.definition.specs.Floats.{nought, largest, divided, larger, above}
+use Rattle.definition.specs.Floats.{nought, larger, above}
 use Rattle.definition.specs.Prune.{quotient, shade, shadeAll}
 use Rattle.whole.specs.Whole.{limit, count, IsWhole}
 use Rattle.whole.specs.Whole.{zero-whole}
 use Rattle.whole.specs.Order.{eq-whole}
 use Rattle.metric.specs.Exact.{Exact}
 use Rattle.metric.specs.Laws.{between-from, between-sym}
-use Rattle.items.specs.Items.{All, itemsOf}
+use Rattle.items.specs.Items.{itemsOf}
 use Rattle.items.specs.Held.{items-at, items-length}
-use Rattle.prune.specs.Says.{quotientF, Measurable, shadedFrom}
+use Rattle.prune.specs.Says.{quotientF, shadedFrom}
 
 zero-test : (p : ℕ) → p ≤ limit → eq (whole p) nought ≡ eqb p 0
 unfolding nought

@@ -1,8 +1,8 @@
 -- The state of the two loops of `take_rounds`, and each of their steps.
-use mathlib.Core.Path.{_≡_, refl, sym, ap, _∙_, subst}
+use mathlib.Core.Path.{_≡_, refl, sym, ap, _∙_}
 use mathlib.Core.Bool.{Bool, true, false, cond}
 use mathlib.Core.List.{List, [], _∷_, _++_, append-assoc, append-nil}
-use Prim.Native.Nat.{ℕ, zero, suc, _+_, _-_, _≤_, _<_}
+use Prim.Native.Nat.{ℕ, suc, _+_, _-_, _≤_, _<_}
 use native.Mathlib.Numerals.{add-one}
 use native.Mathlib.Omega.{arith}
 use lib.Ieee.{Float, nan, lt, ofBits, binary32}
@@ -16,7 +16,7 @@ use Rattle.whole.specs.Whole.{count}
 use Rattle.items.specs.Items.{itemsOf}
 use Rattle.items.specs.Held.{items-at, items-length}
 use Rattle.prune.specs.Says.{shadedFrom, roundsOf, Taken}
-use Rattle.prune.proofs.Walking.{onward, onward-start, onward-skip, onward-take, onward-end, onward-full, full-rounds}
+use Rattle.prune.proofs.Walking.{onward, onward-start, onward-skip, onward-take, onward-end, onward-full}
 
 -- within a round
 pub record Walk (dim : ℕ) (vectors ids : List ℕ) (dists : List Float) (target : Float) (fuel : ℕ) (current : Float) (degree : ℕ) (all : List ℕ) (size : ℕ) (fs : List Float) (row : List ℕ) (taken i : ℕ) : Type 0 where
@@ -42,12 +42,6 @@ sub-zero : (a : ℕ) → a - 0 ≡ a
 sub-zero a = omega arith
 
 module _ (dim : ℕ) (vectors ids : List ℕ) (dists : List Float) (target : Float) (degree : ℕ) (same : length ids ≡ length dists) where
-  abbrev cs : List Item
-  cs = itemsOf ids dists
-
-  abbrev pair : ℕ → ℕ → ℕ
-  pair = between dim vectors
-
   count-items : length (itemsOf ids dists) ≡ length ids
   count-items = items-length ids dists same
 

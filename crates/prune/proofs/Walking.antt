@@ -1,14 +1,14 @@
 -- A round from place i on, and all that follows it.
-use mathlib.Core.Path.{_≡_, refl, sym, ap, _∙_, subst}
+use mathlib.Core.Path.{_≡_, refl, sym, ap, _∙_}
 use mathlib.Core.Bool.{Bool, true, false, cond}
 use mathlib.Core.List.{List, [], _∷_, _++_, append-assoc, append-nil}
 use Prim.Native.Nat.{ℕ, zero, suc, _+_, _-_, _≤_, _<_}
 use native.Mathlib.Numerals.{add-one}
 use native.Mathlib.Omega.{arith}
 use lib.Ieee.{Float, nan, lt}
-use lib.ListN.{length, getD, take, drop, set, length-set, length-append, take-append-drop, drop-of-length-le}
+use lib.ListN.{length, getD, take, drop, set, length-set, take-append-drop, drop-of-length-le}
 use lib.Seq.{take-suc, take-suc-set, drop-set-lt, drop-cons, length-take-le, take-at, drop-at}
-use Rattle.definition.specs.Beam.{Item, item}
+use Rattle.definition.specs.Beam.{Item}
 use Rattle.definition.specs.Floats.{largest, above}
 use Rattle.definition.specs.Prune.{Round, skipOne, takeOne, round, rounds, shadeAll, nextAlpha}
 

@@ -1,15 +1,15 @@
 -- The candidates that `choose` leaves may be measured, and the row pruned from them is the definition's.
-use mathlib.Core.Path.{_≡_, refl, sym, ap, ap₂, _∙_, subst}
+use mathlib.Core.Path.{_≡_, sym, ap, ap₂, _∙_, subst}
 use mathlib.Core.Bool.{Bool, true, false, cond}
 use mathlib.Core.List.{List, [], _∷_, _++_}
-use Prim.Native.Nat.{ℕ, zero, suc, _+_, _-_, _*_, _≤_, _<_}
+use Prim.Native.Nat.{ℕ, _+_, _-_, _*_, _≤_}
 use native.Mathlib.Omega.{arith}
 use lib.Ieee.{Float}
 use lib.ListN.{length, take, drop, length-drop}
 use lib.Seq.{length-take-le, drop-drop}
 use borrow.Rule.Slice.PartMut.{putMid}
 use Rattle.definition.specs.Lists.{sort, isIn}
-use Rattle.definition.specs.Beam.{Item, item, nearer}
+use Rattle.definition.specs.Beam.{Item, nearer}
 use Rattle.definition.specs.Metric.{between}
 use Rattle.definition.specs.Prune.{fresh, cut, candidates, prunedFrom, prune}
 use Rattle.definition.specs.Tables.{padded}

@@ -1,13 +1,12 @@
 -- What pruning's functions say.
 use mathlib.Core.Path.{_≡_}
-use mathlib.Core.Bool.{Bool, cond}
-use mathlib.Core.List.{List, [], _∷_, _++_}
-use Prim.Native.Nat.{ℕ, _+_, _-_, _*_, _≤_, _<_}
+use mathlib.Core.Bool.{cond}
+use mathlib.Core.List.{List, _++_}
+use Prim.Native.Nat.{ℕ, _+_, _*_, _≤_}
 use lib.Ieee.{Float, eq}
 use lib.ListN.{length, take, drop}
-use Rattle.definition.specs.Beam.{Item, item}
 use Rattle.definition.specs.Metric.{vector, between}
-use Rattle.definition.specs.Floats.{nought, one, largest, divided, larger}
+use Rattle.definition.specs.Floats.{nought, one, largest, divided}
 use Rattle.definition.specs.Prune.{shadeAll, rounds, targetOf, mostRounds}
 use Rattle.definition.specs.Tables.{padded}
 use Rattle.whole.specs.Whole.{IsWhole}

@@ -3,12 +3,12 @@ use metric::from_query;
 use pool::choose;
 ghost use mathlib.Core.Path.{_≡_};
 ghost use mathlib.Core.List.{_++_};
-ghost use Prim.Native.Nat.{ℕ, _+_, _-_, _*_, _≤_, _<_};
-ghost use lib.ListN.{length, take, drop, replicate};
-ghost use Rattle.definition.specs.Floats.{nought, larger};
+ghost use Prim.Native.Nat.{_+_, _-_, _*_, _≤_, _<_};
+ghost use lib.ListN.{length, take, replicate};
+ghost use Rattle.definition.specs.Floats.{larger};
 ghost use Rattle.definition.specs.Metric.{between};
 ghost use Rattle.definition.specs.Prune.{targetOf, increment, nextAlpha, prunedFrom, prune};
-ghost use Rattle.definition.specs.Tables.{pad, padded};
+ghost use Rattle.definition.specs.Tables.{pad};
 ghost use Rattle.metric.specs.Exact.{VectorIn};
 ghost use Rattle.items.specs.Items.{itemsOf};
 ghost use Rattle.pool.specs.Says.{Distinct};
@@ -83,7 +83,7 @@ fn shade_rest(
     let mut j = from;
     while j < m {
         let factor = factors[j];
-        if target < factor {} else {
+        if !(target < factor) {
             let other = wide(ids[j]);
             let apart = from_query(dim, vectors, query, other);
             factors[j] = raised(factor, dists[j], apart);
@@ -148,7 +148,7 @@ fn take_rounds(
             if degree <= count {
                 break 'rounds;
             }
-            if current < factors[i] {} else {
+            if !(current < factors[i]) {
                 let id = ids[i];
                 row[count] = id;
                 count += 1;

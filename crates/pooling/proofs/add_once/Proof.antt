@@ -1,8 +1,7 @@
-use mathlib.Core.Path.{_≡_, refl, sym, ap, _∙_, subst}
-use mathlib.Core.Logic.{⊎-elim}
-use Prim.Native.Nat.{ℕ, suc, _+_, _-_, _*_, _≤_, _<_}
+-- `add_once` meets its contract. An id is in the pool when its mark is the stamp; if not, there is room for it.
+use Prim.Native.Nat.{_<_}
 use native.Mathlib.Omega.{arith}
-use lib.ListN.{length, getD, set, take, drop, length-set}
+use lib.ListN.{length-set}
 use borrow.Author.Needs.{needs}
 use Rattle.pooling.proofs.Adding.{pooled-room, added-seen, added-new}
 use Rattle.pooling.proofs.add_once.Statement.{statement}
@@ -16,59 +15,45 @@ free c =
     let s = c .before .before in
     pooled-room (s .args .n) (s .args .stamp) (s .args .len) (s .args .pool .now) (s .pre .0) (s .args .dists .now) (s .args .id) (s .args .dist) (s .pre .1 .2) (c .if1 .left)
 
--- src/lib.rt:25:16
 add-mark : tie.Need-add-mark
 add-mark c = search needs
 
--- src/lib.rt:26:8
 mul-if1 : tie.Need-mul-if1
 mul-if1 c = search needs
 
--- src/lib.rt:26:8
 slice-read-if1 : tie.Need-slice-read-if1
 slice-read-if1 c = search needs
 
--- src/lib.rt:27:9
 returns : tie.Need-returns
 returns c = let s = c .before .before in added-seen (s .args .n) (s .args .stamp) (s .args .len) (s .args .pool .now) (s .pre .0) (s .args .dists .now) (s .args .id) (s .args .dist) (s .pre .1 .2) (c .if1 .taken)
 
--- src/lib.rt:29:5
 mul-pool : tie.Need-mul-pool
 mul-pool c = search needs
 
--- src/lib.rt:29:5
 slice-write-pool : tie.Need-slice-write-pool
 slice-write-pool c = search needs
 
--- src/lib.rt:30:5
 mul-pool-2 : tie.Need-mul-pool-2
 mul-pool-2 c = omega (arith, free c, c .before .before .pre .1 .0)
 
--- src/lib.rt:30:5
 slice-write-pool-2 : tie.Need-slice-write-pool-2
 slice-write-pool-2 c = simp length-set (omega (arith, free c, c .before .before .pre .0 .size))
 
--- src/lib.rt:31:5
 mul-dists : tie.Need-mul-dists
 mul-dists c = omega (arith, free c, c .before .before .pre .1 .0)
 
--- src/lib.rt:31:5
 slice-write-dists : tie.Need-slice-write-dists
 slice-write-dists c = omega (arith, free c, c .before .before .pre .1 .1)
 
--- src/lib.rt:32:5
 add-result : tie.Need-add-result
 add-result c = omega (arith, free c, c .before .before .pre .1 .0)
 
--- src/lib.rt:11:1
 same-length : tie.Need-same-length
 same-length c = search needs
 
--- src/lib.rt:11:1
 same-length-2 : tie.Need-same-length-2
 same-length-2 c = search needs
 
--- src/lib.rt:11:1
 returns-2 : tie.Need-returns-2
 returns-2 c = let s = c .before .before in added-new (s .args .n) (s .args .stamp) (s .args .len) (s .args .pool .now) (s .pre .0) (s .args .dists .now) (s .args .id) (s .args .dist) (s .pre .1 .2) (c .if1 .left) (s .pre .1 .1)
 

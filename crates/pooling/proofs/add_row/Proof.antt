@@ -1,18 +1,14 @@
-use mathlib.Core.Path.{_≡_, refl, sym, ap, _∙_, subst}
+-- `add_row` meets its contract. The ids of the words before place k have been added.
 use mathlib.Core.Logic.{⊎-elim}
-use Prim.Native.Nat.{ℕ, suc, _+_, _-_, _*_, _≤_, _<_}
+use Prim.Native.Nat.{_-_, _<_}
 use native.Mathlib.Omega.{arith}
-use lib.ListN.{length, getD, set, take, drop, length-set}
+use lib.ListN.{length}
 use borrow.Author.Needs.{needs}
 use Rattle.definition.specs.Metric.{fromQuery}
 use Rattle.metric.specs.Laws.{vector-in}
 use Rattle.pooling.proofs.Rows.{RowSoFar, row-start, row-done, row-pad, row-real}
 use Rattle.pooling.proofs.add_row.Statement.{statement}
 use Rattle.pooling.proofs.add_row.Tie as tie
-use Rattle.pooling.proofs.add_row.Reads as reads
-use Rattle.pooling.proofs.add_row.Lts as lts
-use Rattle.metric.proofs.from_query.Reads as from-query-reads
-use Rattle.pooling.proofs.add_once.Reads as add-once-reads
 
 abbrev Inv-loop : tie.InvT-loop
 Inv-loop pool₀ dists₀ n stamp row dim vectors query len₀ k₀ pool dists len k = RowSoFar n stamp pool₀ dists₀ row (fromQuery dim vectors query) pool dists len k
@@ -20,45 +16,36 @@ Inv-loop pool₀ dists₀ n stamp row dim vectors query len₀ k₀ pool dists l
 abbrev μ-loop : tie.MeasureT-loop
 μ-loop pool₀ dists₀ n stamp row dim vectors query len₀ k₀ pool dists len k = length row - k
 
--- src/lib.rt:58:5
 loop-holds : tie.Need-loop-holds Inv-loop μ-loop
 loop-holds c = let s = c .before .before .before .before .before in row-start (s .args .n) (s .args .stamp) (s .args .pool .now) (s .args .dists .now) (s .args .row .now) (fromQuery (s .args .dim) (s .args .vectors .now) (s .args .query .now)) (s .pre .0)
 
--- src/lib.rt:59:18
 mul-id : tie.Need-mul-id Inv-loop μ-loop
 mul-id c = search needs
 
--- src/lib.rt:59:18
 shared-slice-read-id : tie.Need-shared-slice-read-id Inv-loop μ-loop
 shared-slice-read-id c = search needs
 
--- src/lib.rt:61:64
 cast-from-query : tie.Need-cast-from-query Inv-loop μ-loop
 cast-from-query c = omega (arith, c .before .shared-slice-known4 .given (c .before .before .before .loop .k))
 
--- src/lib.rt:61:17
 from-query-requires : tie.Need-from-query-requires Inv-loop μ-loop
 from-query-requires c κs =
     let s = c .before .before .before .before .before .before .before .before .before in
     let l = c .before .before .before .loop in
     (vector-in (s .args .dim) (s .args .vectors .now) (s .args .n) _ (s .pre .1 .1 .0 .vectors-are) (s .pre .1 .1 .1 (l .k) (omega arith) (c .if1 .taken)), (s .pre .1 .1 .0 .query-is, s .pre .1 .1 .0 .few))
 
--- src/lib.rt:62:13
 add-once-requires : tie.Need-add-once-requires Inv-loop μ-loop
 add-once-requires c κs =
     let s = c .before .before .before .before .before .before .before .before .before .before .before .before in
     let l = c .before .before .before .before .before .before .loop in
     (l .inv .added .pooled, (s .pre .1 .0 .0, omega (arith, s .pre .1 .0 .1, l .inv .size), s .pre .1 .1 .1 (l .k) (omega arith) (c .before .before .before .if1 .taken)))
 
--- src/lib.rt:64:9
 add-k : tie.Need-add-k Inv-loop μ-loop
 add-k c = search needs
 
--- src/lib.rt:58:5
 loop-less : tie.Need-loop-less Inv-loop μ-loop
 loop-less c = omega arith
 
--- src/lib.rt:58:5
 loop-again : tie.Need-loop-again Inv-loop μ-loop
 loop-again c =
     let s = c .before .before .before .before .before .before .before .before .before in
@@ -69,15 +56,12 @@ loop-again c =
     (λ w. row-pad (s .args .n) (s .args .stamp) (s .args .pool .now) (s .args .dists .now) (s .args .row .now) (fromQuery (s .args .dim) (s .args .vectors .now) (s .args .query .now)) (l .pool) (l .dists) (l .len) (l .k) (l .inv) h _ _ _ (w .0 .left) (w .1) (w .2) (w .3))
     (c .if1 .came)
 
--- src/lib.rt:40:1
 same-length : tie.Need-same-length Inv-loop μ-loop
 same-length c = search needs
 
--- src/lib.rt:40:1
 same-length-2 : tie.Need-same-length-2 Inv-loop μ-loop
 same-length-2 c = search needs
 
--- src/lib.rt:40:1
 returns : tie.Need-returns Inv-loop μ-loop
 returns c =
     let s = c .before .before .before .before .before .before .before in

@@ -1,17 +1,13 @@
-use mathlib.Core.Path.{_≡_, refl, sym, ap, _∙_, subst}
-use mathlib.Core.Logic.{⊎-elim}
-use Prim.Native.Nat.{ℕ, suc, _+_, _-_, _*_, _≤_, _<_}
+-- `add_visited` meets its contract. The first k of the log have been added.
+use mathlib.Core.Path.{_≡_, sym, subst}
+use Prim.Native.Nat.{ℕ, _-_, _≤_, _<_}
 use native.Mathlib.Omega.{arith}
-use lib.ListN.{length, getD, set, take, drop, length-set}
 use borrow.Author.Needs.{needs}
 use native.Mathlib.Nat.{le-of-eq}
 use Rattle.pooling.specs.Regions.{Filled}
 use Rattle.pooling.proofs.Lending.{dists-length, filled-none, filled-floats, id-kept, filled-more}
 use Rattle.pooling.proofs.add_visited.Statement.{statement}
 use Rattle.pooling.proofs.add_visited.Tie as tie
-use Rattle.pooling.proofs.add_visited.Reads as reads
-use Rattle.pooling.proofs.add_visited.Lts as lts
-use Rattle.pooling.proofs.add_once.Reads as add-once-reads
 
 abbrev Inv-loop : tie.InvT-loop
 Inv-loop words₀ floats₀ n visited stamp len more₀ k₀ words floats more k = (k ≤ visited) × Filled n stamp words₀ floats₀ len words floats more k
@@ -19,103 +15,78 @@ Inv-loop words₀ floats₀ n visited stamp len more₀ k₀ words floats more k
 abbrev μ-loop : tie.MeasureT-loop
 μ-loop words₀ floats₀ n visited stamp len more₀ k₀ words floats more k = visited - k
 
--- src/lib.rt:85:5
 loop-holds : tie.Need-loop-holds Inv-loop μ-loop
 loop-holds c = let s = c .before .before in (omega arith, filled-none (s .args .n) (s .args .stamp) (s .args .len) (s .args .words .now) (s .args .floats .now) (s .pre .0))
 
--- src/lib.rt:86:17
 mul-w : tie.Need-mul-w Inv-loop μ-loop
 mul-w c = search needs
 
--- src/lib.rt:86:17
 add-w : tie.Need-add-w Inv-loop μ-loop
 add-w c = search needs
 
--- src/lib.rt:86:17
 add-w-2 : tie.Need-add-w-2 Inv-loop μ-loop
 add-w-2 c = search needs
 
--- src/lib.rt:87:17
 add-f : tie.Need-add-f Inv-loop μ-loop
 add-f c = search needs
 
--- src/lib.rt:87:17
 add-f-2 : tie.Need-add-f-2 Inv-loop μ-loop
 add-f-2 c = search needs
 
--- src/lib.rt:88:18
 mul-id : tie.Need-mul-id Inv-loop μ-loop
 mul-id c = search needs
 
--- src/lib.rt:88:18
 slice-read-id : tie.Need-slice-read-id Inv-loop μ-loop
 slice-read-id c = search needs
 
--- src/lib.rt:89:20
 mul-dist : tie.Need-mul-dist Inv-loop μ-loop
 mul-dist c = search needs
 
--- src/lib.rt:89:20
 slice-read-dist : tie.Need-slice-read-dist Inv-loop μ-loop
 slice-read-dist c = search needs
 
--- src/lib.rt:90:18
-mul-pa : tie.Need-mul-pa Inv-loop μ-loop
-mul-pa c = search needs
+mul-pool-at : tie.Need-mul-pool-at Inv-loop μ-loop
+mul-pool-at c = search needs
 
--- src/lib.rt:90:18
-add-pa : tie.Need-add-pa Inv-loop μ-loop
-add-pa c = search needs
+add-pool-at : tie.Need-add-pool-at Inv-loop μ-loop
+add-pool-at c = search needs
 
--- src/lib.rt:91:18
-mul-pe : tie.Need-mul-pe Inv-loop μ-loop
-mul-pe c = search needs
+mul-pool-end : tie.Need-mul-pool-end Inv-loop μ-loop
+mul-pool-end c = search needs
 
--- src/lib.rt:91:18
-add-pe : tie.Need-add-pe Inv-loop μ-loop
-add-pe c = search needs
+add-pool-end : tie.Need-add-pool-end Inv-loop μ-loop
+add-pool-end c = search needs
 
--- src/lib.rt:92:18
-mul-da : tie.Need-mul-da Inv-loop μ-loop
-mul-da c = search needs
+mul-dists-at : tie.Need-mul-dists-at Inv-loop μ-loop
+mul-dists-at c = search needs
 
--- src/lib.rt:92:18
-add-da : tie.Need-add-da Inv-loop μ-loop
-add-da c = search needs
+add-dists-at : tie.Need-add-dists-at Inv-loop μ-loop
+add-dists-at c = search needs
 
--- src/lib.rt:93:25
 mul-add-once : tie.Need-mul-add-once Inv-loop μ-loop
 mul-add-once c = search needs
 
--- src/lib.rt:93:25
 sub-add-once : tie.Need-sub-add-once Inv-loop μ-loop
 sub-add-once c = search needs
 
--- src/lib.rt:93:25
 part-add-once-start : tie.Need-part-add-once-start Inv-loop μ-loop
 part-add-once-start c = search needs
 
--- src/lib.rt:93:25
 part-add-once-end : tie.Need-part-add-once-end Inv-loop μ-loop
 part-add-once-end c = search needs
 
--- src/lib.rt:93:45
 mul-add-once-2 : tie.Need-mul-add-once-2 Inv-loop μ-loop
 mul-add-once-2 c = search needs
 
--- src/lib.rt:93:45
 sub-add-once-2 : tie.Need-sub-add-once-2 Inv-loop μ-loop
 sub-add-once-2 c = search needs
 
--- src/lib.rt:93:45
 part-add-once-start-2 : tie.Need-part-add-once-start-2 Inv-loop μ-loop
 part-add-once-start-2 c = search needs
 
--- src/lib.rt:93:45
 part-add-once-end-2 : tie.Need-part-add-once-end-2 Inv-loop μ-loop
 part-add-once-end-2 c = search needs
 
--- src/lib.rt:93:9
 add-once-requires : tie.Need-add-once-requires Inv-loop μ-loop
 add-once-requires c κs =
     let s = c .before .before .before .before .before .before .before .before in
@@ -129,15 +100,12 @@ add-once-requires c κs =
       ),
     )
 
--- src/lib.rt:94:9
 add-k : tie.Need-add-k Inv-loop μ-loop
 add-k c = search needs
 
--- src/lib.rt:85:5
 loop-less : tie.Need-loop-less Inv-loop μ-loop
 loop-less c = omega arith
 
--- src/lib.rt:85:5
 loop-again : tie.Need-loop-again Inv-loop μ-loop
 loop-again c =
     let s = c .before .before .before .before .before .before .before .before .before .before .before .before .before in
@@ -146,15 +114,12 @@ loop-again c =
     let h : l .k < s .args .n = omega (arith, s .pre .1 .0 .3, c .before .before .before .before .before .before .before .before .before .loop-test .taken) in
     (omega arith, filled-more (s .args .n) (s .args .stamp) (s .args .len) (s .args .words .now) (l .words) (s .args .floats .now) (l .floats) (l .more) (l .k) (l .inv .1) h (s .pre .1 .0 .1) (s .pre .1 .0 .2) (a .last .0) (a .last .1 .0) (a .kept .0) (a .kept .1 .0) (a .result) (a .ensures))
 
--- src/lib.rt:70:1
 same-length : tie.Need-same-length Inv-loop μ-loop
 same-length c = c .before .loop .inv .1 .words-kept .size
 
--- src/lib.rt:70:1
 same-length-2 : tie.Need-same-length-2 Inv-loop μ-loop
 same-length-2 c = c .before .loop .inv .1 .floats-kept .size
 
--- src/lib.rt:70:1
 returns : tie.Need-returns Inv-loop μ-loop
 returns c =
     let s = c .before .before .before .before in
@@ -178,12 +143,12 @@ add-visited-spec =
     slice-read-id
     mul-dist
     slice-read-dist
-    mul-pa
-    add-pa
-    mul-pe
-    add-pe
-    mul-da
-    add-da
+    mul-pool-at
+    add-pool-at
+    mul-pool-end
+    add-pool-end
+    mul-dists-at
+    add-dists-at
     mul-add-once
     sub-add-once
     part-add-once-start

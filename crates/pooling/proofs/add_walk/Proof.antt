@@ -1,8 +1,7 @@
-use mathlib.Core.Path.{_≡_, refl, sym, ap, _∙_, subst}
-use mathlib.Core.Logic.{⊎-elim}
-use Prim.Native.Nat.{ℕ, suc, _+_, _-_, _*_, _≤_, _<_}
+-- `add_walk` meets its contract. The walk leaves the pool alone, and its log holds what it visited.
+use mathlib.Core.Path.{sym, subst}
+use Prim.Native.Nat.{ℕ}
 use native.Mathlib.Omega.{arith}
-use lib.ListN.{length, getD, set, take, drop, length-set}
 use borrow.Author.Needs.{needs}
 use Rattle.definition.specs.Metric.{fromQuery}
 use Rattle.definition.specs.Greedy.{greedy}
@@ -13,12 +12,7 @@ use Rattle.pooling.proofs.Visits.{seen-below}
 use Rattle.pooling.proofs.Growing.{pool-kept, grown-walk}
 use Rattle.pooling.proofs.add_walk.Statement.{statement}
 use Rattle.pooling.proofs.add_walk.Tie as tie
-use Rattle.pooling.proofs.add_walk.Reads as reads
-use Rattle.pooling.proofs.add_walk.Lts as lts
-use Rattle.greedy.proofs.greedy.Reads as greedy-reads
-use Rattle.pooling.proofs.add_visited.Reads as add-visited-reads
 
--- src/lib.rt:126:9
 greedy-requires : tie.Need-greedy-requires
 greedy-requires c κs =
     let s = c .before .before .before .before .before .before .before in (
@@ -26,7 +20,6 @@ greedy-requires c κs =
       (s .pre .0 .measures, ((s .pre .0 .size, s .pre .0 .narrow, s .pre .1 .1), s .pre .0 .rows)),
     )
 
--- src/lib.rt:127:9
 add-visited-requires : tie.Need-add-visited-requires
 add-visited-requires c κs =
     let s = c .before .before .before .before .before .before .before .before .before .before .before .before .before .before in
@@ -36,15 +29,12 @@ add-visited-requires c κs =
       ((s .pre .1 .0 .room .nodes, omega (arith, k .words-kept .size, s .pre .1 .0 .word-room), omega (arith, k .floats-kept .size, s .pre .1 .0 .float-room), k .visited-le), seen-below (s .args .p .n) (s .args .p .width) (s .args .p .beam) (s .args .wide .now) (fromQuery (s .args .p .dim) (s .args .vectors .now) (s .args .query .now)) (s .args .start) (s .pre .1 .1) (s .pre .0 .rows) (s .args .epoch) (s .args .words .now) (g .last .0) (s .args .floats .now) (g .last .1 .0) (g .result .epoch) (g .result .visited) (g .result .frontier) (g .result .work) k),
     )
 
--- src/lib.rt:109:1
 same-length : tie.Need-same-length
 same-length c = search needs
 
--- src/lib.rt:109:1
 same-length-2 : tie.Need-same-length-2
 same-length-2 c = search needs
 
--- src/lib.rt:109:1
 returns : tie.Need-returns
 returns c =
     let s = c .before .before .before .before .before .before .before .before .before .before .before .before .before .before .before .before .before .before .before in

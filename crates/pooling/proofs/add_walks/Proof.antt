@@ -1,8 +1,7 @@
-use mathlib.Core.Path.{_≡_, refl, sym, ap, _∙_, subst}
-use mathlib.Core.Logic.{⊎-elim}
-use Prim.Native.Nat.{ℕ, suc, _+_, _-_, _*_, _≤_, _<_}
+-- `add_walks` meets its contract. The walks from the first k seeds have been made.
+use Prim.Native.Nat.{_-_, _≤_, _<_}
 use native.Mathlib.Omega.{arith}
-use lib.ListN.{length, getD, set, take, drop, length-set}
+use lib.ListN.{length, take}
 use borrow.Author.Needs.{needs}
 use mathlib.Core.List.{map}
 use Rattle.definition.specs.Lists.{joined}
@@ -11,9 +10,6 @@ use Rattle.pooling.specs.Regions.{Grown, visits}
 use Rattle.pooling.proofs.Growing.{grown-none, grown-then, joined-none, joined-next, joined-all}
 use Rattle.pooling.proofs.add_walks.Statement.{statement}
 use Rattle.pooling.proofs.add_walks.Tie as tie
-use Rattle.pooling.proofs.add_walks.Reads as reads
-use Rattle.pooling.proofs.add_walks.Lts as lts
-use Rattle.pooling.proofs.add_walk.Reads as add-walk-reads
 
 abbrev Inv-loop : tie.InvT-loop
 Inv-loop words₀ floats₀ vectors query wide p stamp seeds s₀ k₀ words floats s k = (k ≤ length seeds) × Grown (p .n) (p .beam) stamp words₀ floats₀ (s₀ .len) words floats (s .epoch) (s .len) (joined (map (visits (fromQuery (p .dim) vectors query) (p .width) wide (p .n) (p .beam)) (take k seeds))) (fromQuery (p .dim) vectors query)
@@ -21,36 +17,29 @@ Inv-loop words₀ floats₀ vectors query wide p stamp seeds s₀ k₀ words flo
 abbrev μ-loop : tie.MeasureT-loop
 μ-loop words₀ floats₀ vectors query wide p stamp seeds s₀ k₀ words floats s k = length seeds - k
 
--- src/lib.rt:153:5
 loop-holds : tie.Need-loop-holds Inv-loop μ-loop
 loop-holds c =
     let t = c .before .before .before .before .before .before in
     (omega arith, rw (joined-none (visits (fromQuery (t .args .p .dim) (t .args .vectors .now) (t .args .query .now)) (t .args .p .width) (t .args .wide .now) (t .args .p .n) (t .args .p .beam))) (grown-none (t .args .p .n) (t .args .p .beam) (t .args .stamp) (fromQuery (t .args .p .dim) (t .args .vectors .now) (t .args .query .now)) (t .args .words .now) (t .args .floats .now) (t .args .c .len) (t .args .c .epoch) (t .pre .1 .0)))
 
--- src/lib.rt:164:13
 mul-add-walk : tie.Need-mul-add-walk Inv-loop μ-loop
 mul-add-walk c = search needs
 
--- src/lib.rt:164:13
 shared-slice-read-add-walk : tie.Need-shared-slice-read-add-walk Inv-loop μ-loop
 shared-slice-read-add-walk c = search needs
 
--- src/lib.rt:154:9
 add-walk-requires : tie.Need-add-walk-requires Inv-loop μ-loop
 add-walk-requires c κs =
     let t = c .before .before .before .before .before .before .before .before .before .before .before in
     let l = c .before .before .before .before .loop in
     (t .pre .0, (l .inv .1 .holding, t .pre .1 .1 (l .k) (omega arith)))
 
--- src/lib.rt:166:9
 add-k : tie.Need-add-k Inv-loop μ-loop
 add-k c = omega (arith, c .before .before .before .before .before .before .before .before .loop-test .taken, c .before .before .before .before .before .before .before .before .before .before .before .before .before .before .before .before .good .1 .1 .1 .1 .1 .1 .1 .0)
 
--- src/lib.rt:153:5
 loop-less : tie.Need-loop-less Inv-loop μ-loop
 loop-less c = omega arith
 
--- src/lib.rt:153:5
 loop-again : tie.Need-loop-again Inv-loop μ-loop
 loop-again c =
     let t = c .before .before .before .before .before .before .before .before .before .before .before .before .before .before .before .before in
@@ -62,15 +51,12 @@ loop-again c =
           (grown-then (t .args .p .n) (t .args .p .beam) (t .args .stamp) (fromQuery (t .args .p .dim) (t .args .vectors .now) (t .args .query .now)) (t .args .words .now) (l .words) (a .last .0) (t .args .floats .now) (l .floats) (a .last .1 .0) (t .args .c .len) (l .s .len) (a .result .len) (l .s .epoch) (a .result .epoch) _ _ (l .inv .1) (a .ensures)),
     )
 
--- src/lib.rt:135:1
 same-length : tie.Need-same-length Inv-loop μ-loop
 same-length c = c .before .loop .inv .1 .words-kept .size
 
--- src/lib.rt:135:1
 same-length-2 : tie.Need-same-length-2 Inv-loop μ-loop
 same-length-2 c = c .before .loop .inv .1 .floats-kept .size
 
--- src/lib.rt:135:1
 returns : tie.Need-returns Inv-loop μ-loop
 returns c =
     let t = c .before .before .before .before .before .before .before .before in

@@ -1,9 +1,11 @@
-use mathlib.Core.Path.{_≡_, refl, sym, ap, _∙_, subst}
+-- `shade_rest` meets its contract. The factors shaded from place j on are, at every turn, what they are to become.
+use mathlib.Core.Path.{_≡_, refl, sym, _∙_, subst}
 use mathlib.Core.Logic.{⊎-elim}
-use Prim.Native.Nat.{ℕ, suc, _+_, _-_, _*_, _≤_, _<_}
+use Prim.Native.Nat.{ℕ, _-_, _≤_, _<_}
 use native.Mathlib.Omega.{arith}
-use lib.ListN.{length, getD, set, take, drop, length-set}
+use lib.ListN.{length, getD, length-set}
 use borrow.Author.Needs.{needs}
+use borrow.Author.Tests.{not-true, not-false}
 use Rattle.definition.specs.Metric.{vector, fromQuery}
 use Rattle.prune.specs.Says.{shadedFrom}
 use Rattle.prune.proofs.Shading.{exact-between, shade-below, shaded-turn, shaded-skip, shaded-end}
@@ -13,11 +15,6 @@ use lib.Ieee.{nan}
 use Rattle.whole.specs.Whole.{IsWhole}
 use Rattle.prune.proofs.shade_rest.Statement.{statement}
 use Rattle.prune.proofs.shade_rest.Tie as tie
-use Rattle.prune.proofs.shade_rest.Reads as reads
-use Rattle.prune.proofs.shade_rest.Lts as lts
-use Rattle.metric.proofs.from_query.Reads as from-query-reads
-use Rattle.prune.proofs.raised.Reads as raised-reads
-use Rattle.prune.proofs.wide.Reads as wide-reads
 
 abbrev Inv-loop : tie.InvT-loop
 Inv-loop vectors dim query ids dists factors₀ from target m j₀ factors j = (j ≤ length ids) × ((length factors ≡ length ids) × ((taken : ℕ) → query ≡ vector dim vectors taken → shadedFrom dim vectors ids dists target taken j factors ≡ shadedFrom dim vectors ids dists target taken from factors₀))
@@ -25,66 +22,51 @@ Inv-loop vectors dim query ids dists factors₀ from target m j₀ factors j = (
 abbrev μ-loop : tie.MeasureT-loop
 μ-loop vectors dim query ids dists factors₀ from target m j₀ factors j = length ids - j
 
--- src/lib.rt:104:5
 loop-holds : tie.Need-loop-holds Inv-loop μ-loop
 loop-holds c = (omega arith, (omega arith, λ taken q. refl))
 
--- src/lib.rt:105:22
 mul-factor : tie.Need-mul-factor Inv-loop μ-loop
 mul-factor c = search needs
 
--- src/lib.rt:105:22
 slice-read-factor : tie.Need-slice-read-factor Inv-loop μ-loop
 slice-read-factor c = search needs
 
--- src/lib.rt:108:30
 mul-wide : tie.Need-mul-wide Inv-loop μ-loop
 mul-wide c = search needs
 
--- src/lib.rt:108:30
 shared-slice-read-wide : tie.Need-shared-slice-read-wide Inv-loop μ-loop
 shared-slice-read-wide c = search needs
 
--- src/lib.rt:108:17
 wide-requires : tie.Need-wide-requires Inv-loop μ-loop
 wide-requires c κs = search needs
 
--- src/lib.rt:109:17
 from-query-requires : tie.Need-from-query-requires Inv-loop μ-loop
 from-query-requires c κs =
     let s = c .before .before .before .before .before .before .before .before .before .before .before in
     let l = c .before .before .before .before .before .loop in
     (subst (VectorIn (s .args .dim) (s .args .vectors .now)) (sym (c .wide .ensures)) (all-at (VectorIn (s .args .dim) (s .args .vectors .now)) 0 (s .args .ids .now) (s .pre .0 .rows) (l .j) (omega arith)), (s .pre .1 .2, s .pre .0 .narrow))
 
--- src/lib.rt:110:41
 mul-raised : tie.Need-mul-raised Inv-loop μ-loop
 mul-raised c = search needs
 
--- src/lib.rt:110:41
 shared-slice-read-raised : tie.Need-shared-slice-read-raised Inv-loop μ-loop
 shared-slice-read-raised c = search needs
 
--- src/lib.rt:110:26
 raised-requires : tie.Need-raised-requires Inv-loop μ-loop
 raised-requires c κs = search needs
 
--- src/lib.rt:110:13
 mul-factors : tie.Need-mul-factors Inv-loop μ-loop
 mul-factors c = search needs
 
--- src/lib.rt:110:13
 slice-write-factors : tie.Need-slice-write-factors Inv-loop μ-loop
 slice-write-factors c = search needs
 
--- src/lib.rt:112:9
 add-j : tie.Need-add-j Inv-loop μ-loop
 add-j c = search needs
 
--- src/lib.rt:104:5
 loop-less : tie.Need-loop-less Inv-loop μ-loop
 loop-less c = omega arith
 
--- src/lib.rt:104:5
 loop-again : tie.Need-loop-again Inv-loop μ-loop
 loop-again c =
     let s = c .before .before .before .before .before .before .before .before .before in
@@ -92,7 +74,6 @@ loop-again c =
     let h : l .j < length (s .args .ids .now) = omega arith in
     let hd : l .j < length (s .args .dists .now) = omega (arith, s .pre .0 .same) in
     ⊎-elim
-    (λ w. rw (w .1) (omega arith, (l .inv .1 .0, λ taken q. shaded-skip _ _ _ _ _ _ (s .pre .0 .same) _ (l .inv .1 .0) (l .j) h (w .0 .taken) ∙ l .inv .1 .1 taken q)))
     (λ w.
     rw (w .6) (
       omega arith,
@@ -106,17 +87,16 @@ loop-again c =
             (all-at IsWhole nan (s .args .dists .now) (s .pre .0 .wholes) (l .j) hd)
             (exact-between _ _ (s .args .query .now) taken _ _ q
             (subst (λ (i : ℕ). Exact (fromQuery (s .args .dim) (s .args .vectors .now) (s .args .query .now) i) (w .3 .result)) (w .2 .ensures) (w .3 .ensures)))
-            (w .0 .left)))
+            (not-true _ (w .0 .taken))))
             ∙ l .inv .1 .1 taken q,
       ),
     ))
+    (λ w. rw (w .1) (omega arith, (l .inv .1 .0, λ taken q. shaded-skip _ _ _ _ _ _ (s .pre .0 .same) _ (l .inv .1 .0) (l .j) h (not-false _ (w .0 .left)) ∙ l .inv .1 .1 taken q)))
     (c .if1 .came)
 
--- src/lib.rt:88:1
 same-length : tie.Need-same-length Inv-loop μ-loop
 same-length c = search needs
 
--- src/lib.rt:88:1
 returns : tie.Need-returns Inv-loop μ-loop
 returns c =
     let s = c .before .before .before .before .before .before .before in

@@ -1,8 +1,9 @@
-use mathlib.Core.Path.{_≡_, refl, sym, ap, _∙_, subst}
+-- `take_rounds` meets its contract. The ids taken so far, and what the rest of this round and the rounds after it take, make up the result.
+use mathlib.Core.Path.{_≡_, sym, _∙_, subst}
 use mathlib.Core.Logic.{⊎-elim}
-use Prim.Native.Nat.{ℕ, suc, _+_, _-_, _*_, _≤_, _<_}
+use Prim.Native.Nat.{ℕ, _+_, _-_, _<_}
 use native.Mathlib.Omega.{arith}
-use lib.ListN.{length, getD, set, take, drop, length-set}
+use lib.ListN.{length, set, take, length-set}
 use mathlib.Core.List.{_++_}
 use Rattle.definition.specs.Metric.{between}
 use Rattle.items.specs.Items.{itemsOf}
@@ -13,14 +14,9 @@ use Rattle.definition.specs.Floats.{largest}
 use Rattle.prune.proofs.Walking.{onward}
 use Rattle.prune.proofs.Steps.{Walk, Going, walk-same, going-first, walk-skip, walk-take, walk-first, full, last-round, reached, again}
 use borrow.Author.Needs.{needs}
+use borrow.Author.Tests.{not-true, not-false}
 use Rattle.prune.proofs.take_rounds.Statement.{statement}
 use Rattle.prune.proofs.take_rounds.Tie as tie
-use Rattle.prune.proofs.take_rounds.Reads as reads
-use Rattle.prune.proofs.take_rounds.Lts as lts
-use Rattle.prune.proofs.next_alpha.Reads as next-alpha-reads
-use Rattle.prune.proofs.shade_later.Reads as shade-later-reads
-use Rattle.prune.proofs.target_of.Reads as target-of-reads
-use Rattle.prune.proofs.wide.Reads as wide-reads
 
 abbrev Inv-loop : tie.InvT-loop
 Inv-loop vectors dim ids dists factors₀ row₀ degree alpha m target current count₀ round i₀ factors row count i =
@@ -38,68 +34,53 @@ abbrev μ-rounds : tie.MeasureT-rounds
 μ-rounds vectors dim ids dists factors₀ row₀ degree alpha m target current₀ count₀ round₀ factors row current count round =
     9 - round
 
--- src/lib.rt:131:9
 target-of-requires : tie.Need-target-of-requires Inv-loop μ-loop Inv-rounds μ-rounds
 target-of-requires c κs = search needs
 
--- src/lib.rt:135:5
 rounds-holds : tie.Need-rounds-holds Inv-loop μ-loop Inv-rounds μ-rounds
 rounds-holds c =
     let s = c .before .before .before .before .before .before in
     going-first (s .args .dim) (s .args .vectors .now) (s .args .ids .now) (s .args .dists .now) (c .target-of .result) (s .args .degree) (s .pre .0 .same) (s .args .alpha) (s .args .factors .now) (s .args .row .now) (c .target-of .ensures) (s .pre .1 .0)
 
--- src/lib.rt:137:9
 loop-holds : tie.Need-loop-holds Inv-loop μ-loop Inv-rounds μ-rounds
 loop-holds c =
     let s = c .before .before .before .before .before .before .before in
     let g = c .rounds in
     walk-first (s .args .dim) (s .args .vectors .now) (s .args .ids .now) (s .args .dists .now) (c .before .target-of .result) (s .args .degree) (s .pre .0 .same) _ _ _ _ _ _ _ (g .inv)
 
--- src/lib.rt:141:26
 mul-if2 : tie.Need-mul-if2 Inv-loop μ-loop Inv-rounds μ-rounds
 mul-if2 c = search needs
 
--- src/lib.rt:141:26
 slice-read-if2 : tie.Need-slice-read-if2 Inv-loop μ-loop Inv-rounds μ-rounds
 slice-read-if2 c = search needs
 
--- src/lib.rt:143:26
 mul-id : tie.Need-mul-id Inv-loop μ-loop Inv-rounds μ-rounds
 mul-id c = search needs
 
--- src/lib.rt:143:26
 shared-slice-read-id : tie.Need-shared-slice-read-id Inv-loop μ-loop Inv-rounds μ-rounds
 shared-slice-read-id c = search needs
 
--- src/lib.rt:144:17
 mul-row : tie.Need-mul-row Inv-loop μ-loop Inv-rounds μ-rounds
 mul-row c = search needs
 
--- src/lib.rt:144:17
 slice-write-row : tie.Need-slice-write-row Inv-loop μ-loop Inv-rounds μ-rounds
 slice-write-row c = search needs
 
--- src/lib.rt:145:17
 add-count : tie.Need-add-count Inv-loop μ-loop Inv-rounds μ-rounds
 add-count c = search needs
 
--- src/lib.rt:146:17
 mul-factors : tie.Need-mul-factors Inv-loop μ-loop Inv-rounds μ-rounds
 mul-factors c = search needs
 
--- src/lib.rt:146:17
 slice-write-factors : tie.Need-slice-write-factors Inv-loop μ-loop Inv-rounds μ-rounds
 slice-write-factors c = search needs
 
--- src/lib.rt:147:21
 wide-requires : tie.Need-wide-requires Inv-loop μ-loop Inv-rounds μ-rounds
 wide-requires c κs = search needs
 
--- src/lib.rt:148:63
 add-shade-later : tie.Need-add-shade-later Inv-loop μ-loop Inv-rounds μ-rounds
 add-shade-later c = search needs
 
--- src/lib.rt:148:17
 shade-later-requires : tie.Need-shade-later-requires Inv-loop μ-loop Inv-rounds μ-rounds
 shade-later-requires c κs =
     let s = c .before .before .before .before .before .before .before .before .before .before .before .before .before .before .before in
@@ -111,15 +92,12 @@ shade-later-requires c κs =
       ),
     )
 
--- src/lib.rt:150:13
 add-i : tie.Need-add-i Inv-loop μ-loop Inv-rounds μ-rounds
 add-i c = search needs
 
--- src/lib.rt:137:9
 loop-less : tie.Need-loop-less Inv-loop μ-loop Inv-rounds μ-rounds
 loop-less c = omega arith
 
--- src/lib.rt:137:9
 loop-again : tie.Need-loop-again Inv-loop μ-loop Inv-rounds μ-rounds
 unfolding largest
 loop-again c =
@@ -129,26 +107,22 @@ loop-again c =
     let h : l .i < length (s .args .ids .now) = omega arith in
     let room : l .count < s .args .degree = omega arith in
     ⊎-elim
-    (λ w. walk-same (w .1) (w .2) (w .3) (walk-skip (s .args .dim) (s .args .vectors .now) (s .args .ids .now) (s .args .dists .now) t (s .args .degree) (s .pre .0 .same) _ _ _ _ _ _ _ _ (l .inv) h room (w .0 .taken)))
     (λ w. walk-same (w .7) (w .8) (w .9)
-    (walk-take (s .args .dim) (s .args .vectors .now) (s .args .ids .now) (s .args .dists .now) t (s .args .degree) (s .pre .0 .same) _ _ _ _ _ _ _ _ (l .inv) h room (w .0 .left)
+    (walk-take (s .args .dim) (s .args .vectors .now) (s .args .ids .now) (s .args .dists .now) t (s .args .degree) (s .pre .0 .same) _ _ _ _ _ _ _ _ (l .inv) h room (not-true _ (w .0 .taken))
     (omega (arith, s .pre .1 .1, c .before .before .before .before .before .rounds .inv .nr)) (w .4 .last .1 .1 .1 .1 .0) (w .4 .kept .1 .1 .1 .1 .0 ∙ length-set (l .factors) (l .i) largest)
     (subst (λ (k : ℕ). w .4 .last .1 .1 .1 .1 .0 ≡ shadedFrom (s .args .dim) (s .args .vectors .now) (s .args .ids .now) (s .args .dists .now) t k (l .i + 1) (set (l .factors) (l .i) largest)) (w .2 .ensures) (w .4 .ensures))))
+    (λ w. walk-same (w .1) (w .2) (w .3) (walk-skip (s .args .dim) (s .args .vectors .now) (s .args .ids .now) (s .args .dists .now) t (s .args .degree) (s .pre .0 .same) _ _ _ _ _ _ _ _ (l .inv) h room (not-false _ (w .0 .left))))
     (c .if2 .came)
 
--- src/lib.rt:152:9
 add-round : tie.Need-add-round Inv-loop μ-loop Inv-rounds μ-rounds
 add-round c = search needs
 
--- src/lib.rt:157:13
 next-alpha-requires : tie.Need-next-alpha-requires Inv-loop μ-loop Inv-rounds μ-rounds
 next-alpha-requires c κs = search needs
 
--- src/lib.rt:135:5
 rounds-less : tie.Need-rounds-less Inv-loop μ-loop Inv-rounds μ-rounds
 rounds-less c = omega arith
 
--- src/lib.rt:135:5
 rounds-again : tie.Need-rounds-again Inv-loop μ-loop Inv-rounds μ-rounds
 rounds-again c =
     let s = c .before .before .before .before .before .before .before .before .before .before .before .before in
@@ -157,15 +131,12 @@ rounds-again c =
     rw (c .next-alpha .ensures)
     (again (s .args .dim) (s .args .vectors .now) (s .args .ids .now) (s .args .dists .now) _ (s .args .degree) (s .pre .0 .same) _ _ _ _ _ _ _ (g .inv) _ _ _ _ (l .inv) (omega arith) (omega arith) (c .before .if4 .taken) (g .inv .nr))
 
--- src/lib.rt:116:1
 same-length : tie.Need-same-length Inv-loop μ-loop Inv-rounds μ-rounds
 same-length c = search needs
 
--- src/lib.rt:116:1
 same-length-2 : tie.Need-same-length-2 Inv-loop μ-loop Inv-rounds μ-rounds
 same-length-2 c = search needs
 
--- src/lib.rt:116:1
 returns : tie.Need-returns Inv-loop μ-loop Inv-rounds μ-rounds
 returns c =
     let s = c .before .before .before .before .before .before .before .before .before .before in
@@ -173,15 +144,12 @@ returns c =
     let l = c .before .before .loop in
     full (s .args .dim) (s .args .vectors .now) (s .args .ids .now) (s .args .dists .now) _ (s .args .degree) (s .pre .0 .same) _ _ _ _ _ _ _ (g .inv) _ _ _ _ (l .inv) (c .if1 .taken)
 
--- src/lib.rt:116:1
 same-length-3 : tie.Need-same-length-3 Inv-loop μ-loop Inv-rounds μ-rounds
 same-length-3 c = search needs
 
--- src/lib.rt:116:1
 same-length-4 : tie.Need-same-length-4 Inv-loop μ-loop Inv-rounds μ-rounds
 same-length-4 c = search needs
 
--- src/lib.rt:116:1
 returns-2 : tie.Need-returns-2 Inv-loop μ-loop Inv-rounds μ-rounds
 returns-2 c =
     let s = c .before .before .before .before .before .before .before .before .before .before in
@@ -189,15 +157,12 @@ returns-2 c =
     let l = c .before .before .loop in
     last-round (s .args .dim) (s .args .vectors .now) (s .args .ids .now) (s .args .dists .now) _ (s .args .degree) (s .pre .0 .same) _ _ _ _ _ _ _ (g .inv) _ _ _ _ (l .inv) (omega arith) (omega arith)
 
--- src/lib.rt:116:1
 same-length-5 : tie.Need-same-length-5 Inv-loop μ-loop Inv-rounds μ-rounds
 same-length-5 c = search needs
 
--- src/lib.rt:116:1
 same-length-6 : tie.Need-same-length-6 Inv-loop μ-loop Inv-rounds μ-rounds
 same-length-6 c = search needs
 
--- src/lib.rt:116:1
 returns-3 : tie.Need-returns-3 Inv-loop μ-loop Inv-rounds μ-rounds
 returns-3 c =
     let s = c .before .before .before .before .before .before .before .before .before .before .before in

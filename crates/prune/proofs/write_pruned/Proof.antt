@@ -1,41 +1,28 @@
-use mathlib.Core.Path.{_≡_, refl, sym, ap, _∙_, subst}
-use mathlib.Core.Logic.{⊎-elim}
-use Prim.Native.Nat.{ℕ, suc, _+_, _-_, _*_, _≤_, _<_}
-use native.Mathlib.Omega.{arith}
-use lib.ListN.{length, getD, set, take, drop, length-set}
-use lib.ListN.{replicate}
+-- `write_pruned` meets its contract. Cleared factors, the rounds, and padding make the row.
+use mathlib.Core.Path.{ap, _∙_}
+use Prim.Native.Nat.{ℕ}
+use lib.ListN.{length, replicate}
 use Rattle.definition.specs.Floats.{nought}
 use Rattle.prune.proofs.Filling.{written}
 use borrow.Author.Needs.{needs}
 use Rattle.prune.proofs.write_pruned.Statement.{statement}
 use Rattle.prune.proofs.write_pruned.Tie as tie
-use Rattle.prune.proofs.write_pruned.Reads as reads
-use Rattle.prune.proofs.write_pruned.Lts as lts
-use Rattle.laws.proofs.clear_floats.Reads as clear-floats-reads
-use Rattle.prune.proofs.pad_row.Reads as pad-row-reads
-use Rattle.prune.proofs.take_rounds.Reads as take-rounds-reads
 
--- src/lib.rt:203:5
 clear-floats-requires : tie.Need-clear-floats-requires
 clear-floats-requires c κs = search needs
 
--- src/lib.rt:204:9
 take-rounds-requires : tie.Need-take-rounds-requires
 take-rounds-requires c κs = search needs
 
--- src/lib.rt:205:5
 pad-row-requires : tie.Need-pad-row-requires
 pad-row-requires c κs = search needs
 
--- src/lib.rt:189:1
 same-length : tie.Need-same-length
 same-length c = search needs
 
--- src/lib.rt:189:1
 same-length-2 : tie.Need-same-length-2
 same-length-2 c = search needs
 
--- src/lib.rt:189:1
 returns : tie.Need-returns
 unfolding nought
 returns c =
