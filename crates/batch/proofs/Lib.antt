@@ -1,1 +1,2 @@
+-- A batch on accepted input.
 pub mod Running

@@ -1,5 +1,5 @@
 -- A batch from its marks at 0 to the merged table.
-use Prim.Native.Nat.{ℕ, suc, _+_, _-_, _*_, _/_, _≤_, _<_}
+use Prim.Native.Nat.{ℕ, _+_, _-_, _*_, _/_, _≤_, _<_}
 use native.Mathlib.Nat.{le-of-eq}
 use native.Mathlib.Omega.{arith}
 use mathlib.Core.Path.{_≡_, refl, sym, ap, _∙_, subst}
@@ -26,7 +26,7 @@ use Rattle.merging.specs.Naming.{listedAt}
 use Rattle.settle.proofs.Words.{row-id, row-pad}
 use Rattle.merge.specs.Layout.{freshAt}
 use Rattle.merge.specs.Says.{FreshRows, MergeReady, Merged}
-use Rattle.merge.specs.Zeroed.{within-past, zeroed-within, zero-part}
+use Rattle.merge.specs.Zeroed.{zeroed-within, zero-part}
 use Rattle.batch.specs.Says.{BatchReady, BatchRun}
 
 -- each word of a fresh row is an id below n or padding

@@ -15,11 +15,11 @@ use Rattle.definition.specs.declared.Params.{Params}
 use Rattle.definition.specs.Lists.{each, distinct, groups}
 use Rattle.definition.specs.Slack.{slack}
 use Rattle.definition.specs.Refusals.{BatchCall, batchNumber, goodGroup, badAlpha}
-use Rattle.definition.specs.Outcome.{refused, done, byNumber, BatchOut, batchKept, batchDone, batchOut, BatchMeets}
+use Rattle.definition.specs.Outcome.{refused, done, BatchOut, batchKept, batchDone, batchOut, BatchMeets}
 use Rattle.laws.specs.Truth.{and-both}
 use Rattle.laws.specs.Members.{each-mem}
 use Rattle.checks.specs.Below.{below-at}
-use Rattle.numbers.specs.BuildNumbers.{BatchAccepted, batch-accepted}
+use Rattle.numbers.specs.BuildNumbers.{batch-accepted}
 use Rattle.pooling.specs.Regions.{Below}
 use Rattle.gather.specs.Grown.{mem-at}
 use Rattle.room.specs.Clear.{RoomClear}

@@ -2,22 +2,22 @@
 use Prim.Native.Nat.{ℕ, suc, _+_, _-_, _*_, _≤_, _<_}
 use native.Mathlib.Nat.{le-of-eq}
 use native.Mathlib.Omega.{arith}
-use mathlib.Core.Path.{_≡_, refl, sym, ap, _∙_, subst}
+use mathlib.Core.Path.{_≡_, sym, ap, _∙_, subst}
 use mathlib.Core.Logic.{_⊎_, inl, inr}
 use mathlib.Core.List.{List, [], _∷_, List·Memᴰ as Mem, List·Memᴰ·not-nil as not-nil, List·Memᴰ·cases-cons as cases}
 use borrow.Rule.Slice.PartMut.{putMid}
 use lib.Ieee.{Float}
-use lib.ListN.{length, getD, take, drop}
+use lib.ListN.{length, getD, take}
 use Rattle.definition.specs.declared.Answer.{Answer}
 use Rattle.definition.specs.declared.Params.{Params}
 use Rattle.definition.specs.Tables.{pad}
 use Rattle.definition.specs.Slack.{slack}
 use Rattle.definition.specs.Build.{open′, close, batches, built}
 use Rattle.definition.specs.Refusals.{BuildCall, buildNumber, badAlpha}
-use Rattle.definition.specs.Outcome.{settingOf, refused, done, byNumber, BuildOut, buildKept, builtWide, buildDone, buildOut, BuildMeets}
-use Rattle.laws.specs.Parts.{Within, within-trans}
+use Rattle.definition.specs.Outcome.{settingOf, refused, done, BuildOut, buildKept, builtWide, buildDone, buildOut, BuildMeets}
+use Rattle.laws.specs.Parts.{within-trans}
 use Rattle.checks.specs.Below.{below-at}
-use Rattle.numbers.specs.BuildNumbers.{BuildAccepted, build-accepted}
+use Rattle.numbers.specs.BuildNumbers.{build-accepted}
 use Rattle.pooling.specs.Regions.{Below}
 use Rattle.gather.specs.Grown.{mem-at}
 use Rattle.promises.specs.Kept.{TableKept}

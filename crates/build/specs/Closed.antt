@@ -11,9 +11,8 @@ use Rattle.definition.specs.declared.Params.{Params}
 use Rattle.definition.specs.Slack.{slack}
 use Rattle.definition.specs.Build.{close}
 use Rattle.definition.specs.Refusals.{CloseCall, closeNumber}
-use Rattle.definition.specs.Outcome.{settingOf, refused, done, byNumber, CloseOut, closeKept, closeDone, closeOut, CloseMeets}
-use Rattle.numbers.specs.BuildNumbers.{CloseAccepted, close-accepted}
-use Rattle.settle.specs.Given.{Given}
+use Rattle.definition.specs.Outcome.{settingOf, refused, done, CloseOut, closeKept, closeDone, closeOut, CloseMeets}
+use Rattle.numbers.specs.BuildNumbers.{close-accepted}
 use Rattle.room.specs.Clear.{RoomClear}
 use Rattle.room.specs.Outcomes.{by-refusal, by-success}
 use Rattle.build.specs.Factors.{factors-length, factors-within}

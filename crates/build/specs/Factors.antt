@@ -1,11 +1,11 @@
 -- Close's 750 factors: the front of the floats, lent and come back.
 use Prim.Native.Nat.{ℕ, _+_, _-_, _*_, _≤_}
 use native.Mathlib.Omega.{arith}
-use mathlib.Core.Path.{_≡_, _∙_}
+use mathlib.Core.Path.{_≡_}
 use mathlib.Core.List.{List}
 use borrow.Rule.Slice.PartMut.{putMid}
 use lib.Ieee.{Float}
-use lib.ListN.{length, take, drop, length-take}
+use lib.ListN.{length, take, length-take}
 use Rattle.laws.specs.Parts.{Within, put-within, within-wider}
 
 module _ (n : ℕ) (floats : List Float) (room : 4 * n + 1024 ≤ length floats) where

@@ -1,13 +1,13 @@
 -- The statement of open, from its number and its rows.
 use Prim.Native.Nat.{ℕ, _*_}
-use mathlib.Core.Path.{_≡_, refl, sym, ap, _∙_}
+use mathlib.Core.Path.{_≡_, sym, ap, _∙_}
 use mathlib.Core.List.{List}
 use lib.ListN.{length}
 use Rattle.definition.specs.declared.Answer.{Answer}
 use Rattle.definition.specs.Slack.{slack}
 use Rattle.definition.specs.Build.{open′}
 use Rattle.definition.specs.Refusals.{OpenCall, openNumber}
-use Rattle.definition.specs.Outcome.{refused, done, byNumber, OpenOut, openKept, openDone, openOut, OpenMeets}
+use Rattle.definition.specs.Outcome.{refused, done, OpenOut, openKept, openDone, openOut, OpenMeets}
 use Rattle.numbers.specs.BuildNumbers.{open-accepted}
 use Rattle.room.specs.Outcomes.{by-refusal, by-success}
 use Rattle.open_close.specs.Says.{OpenReady}

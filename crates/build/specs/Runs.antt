@@ -1,6 +1,6 @@
 -- The runs of a whole build, on accepted input: the definition's `batches`, one run at a time.
 use Prim.Native.Nat.{ℕ, zero, suc, _+_, _-_, _*_, _≤_, _<_, min}
-use native.Mathlib.Nat.{add-mul, suc-mul, mul-le-mul-right}
+use native.Mathlib.Nat.{add-mul, mul-le-mul-right}
 use native.Mathlib.Omega.{arith}
 use mathlib.Core.Path.{_≡_, refl, sym, ap, ap₂, _∙_, subst}
 use mathlib.Core.Logic.{_⊎_, inl, inr}
@@ -20,7 +20,7 @@ use Rattle.definition.specs.Build.{batchSize, batches}
 use Rattle.definition.specs.Outcome.{settingOf}
 use Rattle.laws.specs.Members.{take-mem, drop-mem}
 use Rattle.laws.specs.Parts.{Within, within-trans, within-none}
-use Rattle.laws.specs.Words.{padding, Row}
+use Rattle.laws.specs.Words.{Row}
 use Rattle.promises.specs.Kept.{TableKept}
 use Rattle.promises.specs.Rule.{kept-entry}
 use Rattle.promises.specs.build.Batches.{batch-kept}

@@ -49,13 +49,13 @@ pub fn close(
     if number != 0 {
         return answer::refused(number);
     }
-    let slack = checks::limits::slack(params.degree);
+    let width = checks::limits::slack(params.degree);
     open_close::close_rows(
         n,
         dim,
         vectors,
         params,
-        slack,
+        width,
         wide,
         closed,
         &mut floats[0..750],

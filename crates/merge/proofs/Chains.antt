@@ -1,19 +1,19 @@
 -- Chains and seats made in the scratch, from heads and seats at 0; and what they say of a node.
-use Prim.Native.Nat.{ℕ, zero, suc, _+_, _-_, _*_, _≤_, _<_}
+use Prim.Native.Nat.{ℕ, _+_, _-_, _*_, _≤_, _<_}
 use native.Mathlib.Omega.{arith}
 use mathlib.Core.Path.{_≡_, refl, sym, ap, _∙_, subst}
-use mathlib.Core.Bool.{Bool, true, false, not, _||_}
-use mathlib.Core.List.{List, [], _∷_, _++_}
+use mathlib.Core.Bool.{Bool, true, not, _||_}
+use mathlib.Core.List.{List}
 use borrow.Author.Tests.{eq-eqb, ne-eqb}
 use borrow.Rule.Slice.PartMut.{putMid}
 use lib.Dec.{eqb}
-use lib.ListN.{length, getD, take, drop, replicate, length-drop}
+use lib.ListN.{length, getD, drop, replicate, length-drop}
 use lib.Seq.{getD-drop, ext-getD}
 use Rattle.definition.specs.Tables.{pad}
 use Rattle.definition.specs.Batch.{affected}
 use Rattle.laws.specs.Parts.{part, Within, part-length, part-at, put-within, put-part, within-at}
 use Rattle.incoming.specs.Last.{last, last-same, seat}
-use Rattle.incoming.specs.Says.{entry, Laid, Chained, Linked, Once, Seated}
+use Rattle.incoming.specs.Says.{entry, Laid, Chained, Linked, Seated}
 use Rattle.merging.specs.Naming.{listedAt}
 use Rattle.merging.specs.Affected.{affected-is}
 use Rattle.merging.specs.Says.{Ready}

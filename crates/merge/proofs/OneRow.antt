@@ -1,7 +1,7 @@
 -- One affected node: its gathered ids may be fitted, and what is written is the definition's row.
-use Prim.Native.Nat.{ℕ, zero, suc, _+_, _-_, _*_, _/_, _≤_, _<_}
+use Prim.Native.Nat.{ℕ, _+_, _-_, _*_, _≤_, _<_}
 use native.Mathlib.Omega.{arith}
-use mathlib.Core.Path.{_≡_, refl, sym, ap, _∙_, subst}
+use mathlib.Core.Path.{_≡_, sym, ap, _∙_, subst}
 use mathlib.Core.List.{List, List·Memᴰ as Mem}
 use lib.ListN.{length, getD, take, drop}
 use lib.Ieee.{Float}
@@ -16,7 +16,7 @@ use Rattle.pool.specs.Free.{asc-distinct}
 use Rattle.merging.specs.Naming.{listedAt}
 use Rattle.merging.specs.Below.{merged-below}
 use Rattle.merging.specs.Says.{Ready, Gathered}
-use Rattle.settle.specs.Fits.{Fitted, fittedTo, fitted-slack, stretched-as}
+use Rattle.settle.specs.Fits.{Fitted, fitted-slack, stretched-as}
 use Rattle.settle.specs.Given.{Given, degree-slack, fit-asks}
 use Rattle.merge.specs.Layout.{linksAt, freshAt}
 use Rattle.merge.specs.Says.{Gatherable, RowMerged, mergedTo}

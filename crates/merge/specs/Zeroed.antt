@@ -1,7 +1,7 @@
 -- A part of the scratch that was cleared.
 use Prim.Native.Nat.{ℕ, _+_, _-_, _≤_, _<_}
 use native.Mathlib.Omega.{arith}
-use mathlib.Core.Path.{_≡_, refl, sym, ap, _∙_}
+use mathlib.Core.Path.{_≡_, sym, ap, _∙_}
 use mathlib.Core.List.{List}
 use borrow.Rule.Slice.PartMut.{putMid}
 use lib.ListN.{length, getD, drop, replicate, length-replicate, getD-replicate}

@@ -13,13 +13,6 @@ ghost use Rattle.merge.specs.Layout.{freshAt};
 ghost use Rattle.merge.specs.Says.{Unlinked, AllLinked, Gatherable, RowMerged, MergeReady, Merged};
 use definition::Params;
 
-fn word_of(i: usize) -> u32
-    requires { ⌜ i < 65536 ⌝ }
-    ensures { λ r. ⌜ r ≡ i ⌝ }
-{
-    i as u32
-}
-
 // Heads and seats begin at 0; then the chains through the fresh rows, and the seats of the listed nodes.
 fn link(words: &mut [u32], n: usize, nodes: &[u32])
     requires { ⌜ Unlinked (now words) (now nodes) n ⌝ }
@@ -67,7 +60,7 @@ fn merge_row(
 {
     let mut ids = [0u32; 340];
     let mut dists = [0.0f32; 340];
-    let node = word_of(i);
+    let node = settle::word_of(i);
     let links = 2 * n;
     let fresh = 6 * n + 16384;
     let count = merging::gather_node(words, wide, n, links, fresh, nodes, node, slack, &mut ids);

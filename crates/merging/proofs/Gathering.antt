@@ -1,17 +1,16 @@
 -- One node's ids.
-use Prim.Native.Nat.{ℕ, zero, suc, _+_, _-_, _*_, _/_, _≤_, _<_}
+use Prim.Native.Nat.{ℕ, _+_, _-_, _*_, _≤_, _<_}
 use native.Mathlib.Omega.{arith}
-use mathlib.Core.Path.{_≡_, refl, sym, ap, ap₂, _∙_, subst}
-use mathlib.Core.Bool.{Bool, true, false, cond}
-use mathlib.Core.List.{List, [], _∷_, _++_}
+use mathlib.Core.Path.{_≡_, refl, sym, ap, _∙_, subst}
+use mathlib.Core.List.{List, []}
 use borrow.Author.Tests.{eq-eqb, ne-eqb}
 use lib.ListN.{length, getD, take, drop}
 use Rattle.definition.specs.Tables.{pad}
-use Rattle.laws.specs.Rising.{Asc, none}
+use Rattle.laws.specs.Rising.{none}
 use Rattle.definition.specs.Batch.{Setting, mergedIds}
 use Rattle.definition.specs.Slack.{slack}
 use Rattle.gather.specs.Grown.{grown, wanted}
-use Rattle.gather.specs.Says.{Rises, Holds, Grew}
+use Rattle.gather.specs.Says.{Rises, Grew}
 use Rattle.incoming.specs.Last.{seat}
 use Rattle.incoming.specs.Says.{Laid, Chained, Once, sources, NamingAdded}
 use Rattle.merging.specs.Naming.{listedAt, baseWords, base-words, base-length, seat-within, gathered}

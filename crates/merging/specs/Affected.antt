@@ -1,17 +1,17 @@
 -- A node is affected if its chain is not empty or it has a seat.
-use Prim.Native.Nat.{ℕ, zero, suc, _+_, _*_, _/_, _≤_, _<_}
+use Prim.Native.Nat.{ℕ, zero, suc, _+_, _*_, _/_, _≤_}
 use native.Mathlib.Omega.{arith}
-use mathlib.Core.Path.{_≡_, refl, sym, ap, _∙_, subst}
+use mathlib.Core.Path.{_≡_, refl, sym, ap, _∙_}
 use mathlib.Core.Bool.{Bool, true, false, not, _||_, cond}
-use mathlib.Core.List.{List, [], _∷_, _++_, map, List·Memᴰ as Mem, List·Memᴰ·head as here, List·Memᴰ·not-nil as not-nil}
-use borrow.Author.Tests.{eq-eqb, ne-eqb}
+use mathlib.Core.List.{List, [], _∷_, _++_, map, List·Memᴰ·head as here, List·Memᴰ·not-nil as not-nil}
+use borrow.Author.Tests.{ne-eqb}
 use lib.Dec.{eqb}
-use lib.ListN.{length, getD, take, drop}
+use lib.ListN.{length, getD, drop}
 use Rattle.definition.specs.Lists.{isIn, keep, rising}
 use Rattle.definition.specs.Tables.{pad, ids}
 use Rattle.definition.specs.Batch.{Setting, Listed, naming, isListed, affected, base, wideRow, wideIds, mergedIds}
 use Rattle.laws.specs.Members.{Same}
-use Rattle.incoming.specs.Last.{last, named, named-last, named-hit, named-none, last-is, seat}
+use Rattle.incoming.specs.Last.{last, named, seat}
 use Rattle.incoming.specs.Says.{entry, sources}
 use Rattle.merging.specs.Naming.{listedAt, sources-naming}
 

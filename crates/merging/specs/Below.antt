@@ -1,10 +1,10 @@
 -- Every merged id is an entry, where the node's row, the fresh rows and the listed nodes hold only entries.
-use Prim.Native.Nat.{ℕ, zero, suc, _+_, _-_, _*_, _≤_, _<_}
+use Prim.Native.Nat.{ℕ, zero, suc, _+_, _*_, _≤_, _<_}
 use native.Mathlib.Omega.{arith}
 use mathlib.Core.Path.{_≡_, refl, sym, ap, _∙_, subst}
 use mathlib.Core.Logic.{_⊎_, inl, inr}
 use mathlib.Core.Bool.{not}
-use mathlib.Core.List.{List, _++_, List·Memᴰ as Mem}
+use mathlib.Core.List.{List, List·Memᴰ as Mem}
 use lib.Dec.{eqb}
 use lib.ListN.{length, getD, drop}
 use Rattle.definition.specs.Tables.{row}

@@ -1,24 +1,24 @@
 -- The chains' sources are the definition's `naming`, and the seat gives its `base`: so the gathered ids are its `mergedIds`.
 use Prim.Native.Nat.{ℕ, zero, suc, _+_, _-_, _*_, _/_, _≤_, _<_}
 use native.Mathlib.Omega.{arith}
-use mathlib.Core.Path.{_≡_, refl, sym, ap, ap₂, _∙_, subst}
+use mathlib.Core.Path.{_≡_, refl, sym, ap, _∙_, subst}
 use mathlib.Core.Logic.{_⊎_, inl, inr}
-use mathlib.Core.Bool.{Bool, true, false, not, _||_, cond, true≢false, false≢true}
+use mathlib.Core.Bool.{Bool, true, false, not, _||_, cond, false≢true}
 use mathlib.Core.List.{List, [], _∷_, _++_, map, List·Memᴰ as Mem, List·Memᴰ·head as here, List·Memᴰ·tail as there, List·Memᴰ·not-nil as not-nil, List·Memᴰ·cases-cons as cases}
 use borrow.Author.Tests.{eqb-true, eqb-false, eq-eqb, ne-eqb}
 use lib.Dec.{eqb}
 use lib.ListN.{length, getD, take, drop}
 use lib.Seq.{getD-drop, drop-drop}
-use Rattle.definition.specs.Lists.{keep, isIn, rising}
+use Rattle.definition.specs.Lists.{keep, isIn}
 use Rattle.definition.specs.Tables.{ids, pad, row}
 use Rattle.definition.specs.Batch.{Setting, Listed, naming, base, wideRow, wideIds, mergedIds}
 use Rattle.definition.specs.Slack.{slack}
 use Rattle.laws.specs.Members.{Same}
 use Rattle.gather.specs.Grown.{grown, wanted, others, grown-append, grown-rising}
 use Rattle.gather.specs.Entries.{keep-to, keep-from}
-use Rattle.incoming.specs.Last.{named, named-hit, named-miss, named-none, seat}
+use Rattle.incoming.specs.Last.{named, seat}
 use Rattle.incoming.specs.Says.{entry, sources}
-use Rattle.merging.specs.Members.{both-to, both-left, both-right, Comes, map-to, map-from}
+use Rattle.merging.specs.Members.{both-to, both-left, both-right, map-to, map-from}
 
 abbrev listed : ℕ → List ℕ → Listed
 listed u fresh = record { node = u; fresh = fresh }

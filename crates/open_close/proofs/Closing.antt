@@ -12,7 +12,6 @@ use Rattle.definition.specs.declared.Params.{Params}
 use Rattle.definition.specs.Lists.{rising}
 use Rattle.definition.specs.Tables.{row, ids, padded}
 use Rattle.definition.specs.Prune.{prune, prunedFrom}
-use Rattle.definition.specs.Slack.{slack as slackOf}
 use Rattle.definition.specs.Batch.{Setting, pruneIds, wideRow, wideIds}
 use Rattle.definition.specs.Build.{closedIds, close}
 use Rattle.definition.specs.Outcome.{settingOf}
@@ -24,7 +23,7 @@ use Rattle.pool.specs.Says.{Distinct}
 use Rattle.pool.specs.Free.{candidates-free, apart-distinct}
 use Rattle.gather.specs.Entries.{ids-below, row-ids}
 use Rattle.settle.specs.Fits.{Fitted, fittedTo, fitted-few, stretched-as}
-use Rattle.settle.specs.Given.{Given, degree-slack, fit-asks}
+use Rattle.settle.specs.Given.{degree-slack, fit-asks}
 use Rattle.settle.specs.Table.{Written, written-none, written-more, written-all}
 use Rattle.open_close.specs.Says.{IdsCopied, RowCloses, RowClosed, CloseReady}
 use Rattle.open_close.specs.Rule.{part-row, rule-row, row-apart}

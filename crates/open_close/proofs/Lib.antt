@@ -1,3 +1,4 @@
+-- Opening, copying and closing rows, step by step.
 pub mod Opening
 pub mod Copying
 pub mod Closing

@@ -1,8 +1,8 @@
 -- What the build rule gives of a row: ids that are apart, then padding.
 use Prim.Native.Nat.{ℕ, _+_, _-_, _*_, _≤_, _<_}
 use native.Mathlib.Omega.{arith}
-use mathlib.Core.Path.{_≡_, refl, sym, ap, _∙_}
-use mathlib.Core.Bool.{Bool, true, not, _&&_}
+use mathlib.Core.Path.{_≡_, ap, _∙_}
+use mathlib.Core.Bool.{true, not, _&&_}
 use mathlib.Core.List.{List, _++_, append-assoc}
 use lib.Dec.{ltb}
 use lib.ListN.{length, take, drop, replicate, replicate-append-replicate}

@@ -41,13 +41,6 @@ fn copy_ids(row: &[u32], out: &mut [u32]) -> usize
     count
 }
 
-fn word_of(i: usize) -> u32
-    requires { ⌜ i < 65536 ⌝ }
-    ensures { λ r. ⌜ r ≡ i ⌝ }
-{
-    i as u32
-}
-
 // The row of one node in the closed table. Pruning sorts by distance, then id, so that ids in rising order give no other row.
 fn close_row(
     n: usize,
@@ -65,7 +58,7 @@ fn close_row(
 {
     let mut ids = [0u32; 84];
     let mut dists = [0.0f32; 84];
-    let node = word_of(i);
+    let node = settle::word_of(i);
     let a = i * slack;
     let e = a + slack;
     let count = copy_ids(&wide[a..e], &mut ids);

@@ -1,7 +1,7 @@
 -- The room at the end of a call.
 use Prim.Native.Nat.{ℕ, _+_, _-_, _*_, _≤_}
 use native.Mathlib.Omega.{arith}
-use mathlib.Core.Path.{_≡_, refl, sym, ap, _∙_}
+use mathlib.Core.Path.{_≡_, ap, _∙_}
 use mathlib.Core.List.{List, _++_}
 use borrow.Rule.Slice.PartMut.{putMid}
 use lib.Ieee.{Float, ofBits, binary32}

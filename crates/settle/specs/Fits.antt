@@ -1,20 +1,20 @@
 -- The row that the ids of a node become: the definition's `fitted`.
 use mathlib.Core.Path.{_≡_, refl, sym, ap, _∙_, subst}
 use mathlib.Core.Bool.{Bool, true, false, cond}
-use mathlib.Core.List.{List, [], _∷_, _++_, map}
-use Prim.Native.Nat.{ℕ, zero, suc, _+_, _-_, _*_, _≤_, _<_}
+use mathlib.Core.List.{List, [], _∷_, _++_}
+use Prim.Native.Nat.{ℕ, suc, _+_, _*_, _≤_, _<_}
 use native.Mathlib.Omega.{arith}
 use borrow.Author.Tests.{le-leb, lt-leb, leb-true}
 use lib.Dec.{leb}
 use lib.Ieee.{Float}
 use lib.ListN.{length, getD, take, drop, replicate}
 use Rattle.definition.specs.Tables.{padded}
-use Rattle.definition.specs.Metric.{between, whole}
+use Rattle.definition.specs.Metric.{between}
 use Rattle.definition.specs.Floats.{nought, one}
 use Rattle.definition.specs.Prune.{prune, prunedFrom, candidates, measured, targetOf, mostRounds}
 use Rattle.definition.specs.Slack.{slack}
 use Rattle.definition.specs.Batch.{Setting, fitted, pruneIds}
-use Rattle.whole.specs.Whole.{limit, IsWhole}
+use Rattle.whole.specs.Whole.{IsWhole}
 use Rattle.metric.specs.Exact.{VectorIn}
 use Rattle.items.specs.Items.{All, itemsOf}
 use Rattle.items.specs.Held.{items-measured, wholes-measured}

@@ -12,6 +12,14 @@ ghost use Rattle.settle.specs.Fits.{Fitted};
 
 const PADDING: u32 = 0xFFFFFFFF;
 
+// An entry as the word that names it.
+pub fn word_of(i: usize) -> u32
+    requires { ⌜ i < 65536 ⌝ }
+    ensures { λ r. ⌜ r ≡ i ⌝ }
+{
+    i as u32
+}
+
 // A whole row: the ids, and then padding.
 fn write_row(row: &mut [u32], ids: &[u32])
     requires { ⌜ length (now ids) ≤ length (now row) ⌝ }
@@ -40,12 +48,6 @@ pub fn put_row(table: &mut [u32], place: usize, width: usize, ids: &[u32])
     write_row(&mut table[at..end], ids);
 }
 
-fn index_of(word: u32) -> usize
-    ensures { λ r. ⌜ r ≡ word ⌝ }
-{
-    word as usize
-}
-
 // The distance of each id from the node.
 pub fn measure(vectors: &[u8], dim: usize, node: usize, ids: &[u32], dists: &mut [f32])
     requires { ⌜ (dim ≤ 256) × (length (now dists) ≡ length (now ids)) ⌝ }
@@ -56,7 +58,7 @@ pub fn measure(vectors: &[u8], dim: usize, node: usize, ids: &[u32], dists: &mut
     let m = ids.len();
     let mut k = 0;
     while k < m {
-        let id = index_of(ids[k]);
+        let id = gather::index_of(ids[k]);
         dists[k] = metric::between(dim, vectors, node, id);
         k += 1;
     }
@@ -81,7 +83,7 @@ pub fn fit_row(
     requires { ⌜ Distinct (now ids) ⌝ }
     ensures { λ _. ⌜ Fitted (now (wide .entry)) (now (wide .exit)) node width dim (now (vectors .entry)) (now (ids .entry)) degree alpha ⌝ }
 {
-    let place = index_of(node);
+    let place = gather::index_of(node);
     let m = ids.len();
     if m <= width {
         put_row(wide, place, width, ids);

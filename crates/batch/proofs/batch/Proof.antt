@@ -1,66 +1,43 @@
-use mathlib.Core.Path.{_≡_, refl, sym, ap, _∙_, subst}
-use mathlib.Core.Logic.{⊎-elim}
-use Prim.Native.Nat.{ℕ, suc, _+_, _-_, _*_, _≤_, _<_}
-use native.Mathlib.Omega.{arith}
-use lib.ListN.{length, getD, set, take, drop, length-set}
+-- `batch`: the number, the run, the room.
+use mathlib.Core.Path.{refl, sym, _∙_}
 use borrow.Author.Needs.{needs}
 use Rattle.batch.specs.Batched.{batchCall, batch-degree, batch-ready, batch-room, batch-done, batch-refused}
 use Rattle.batch.proofs.batch.Statement.{statement}
 use Rattle.batch.proofs.batch.Tie as tie
-use Rattle.batch.proofs.batch.Reads as reads
-use Rattle.batch.proofs.batch.Lts as lts
-use Rattle.answer.proofs.done.Reads as done-reads
-use Rattle.answer.proofs.refused.Reads as refused-reads
-use Rattle.batch.proofs.run_batch.Reads as run-batch-reads
-use Rattle.checks.proofs.limits.slack.Reads as slack-reads
-use Rattle.numbers.proofs.batch_number.Reads as batch-number-reads
-use Rattle.room.proofs.clear_room.Reads as clear-room-reads
 
--- src/lib.rt:63:9
 batch-number-requires : tie.Need-batch-number-requires
 batch-number-requires c κs = search needs
 
--- src/lib.rt:76:9
 refused-requires : tie.Need-refused-requires
 refused-requires c κs = search needs
 
--- src/lib.rt:76:9
 same-length : tie.Need-same-length
 same-length c = search needs
 
--- src/lib.rt:76:9
 returns : tie.Need-returns
 returns c = let s = c .before .before .before .before .before .before .before .before .before .before in let d = batchCall (s .args .n) (s .args .dim) (s .args .vectors .now) (s .args .params) (s .args .start) (s .args .nodes .now) (s .args .seeds .now) (s .args .wide .now) (s .args .words .now) (s .args .floats .now) in batch-refused d _ _ (c .before .before .batch-number .ensures .is (s .args .words .now) (s .args .floats .now) refl refl) (c .before .if1 .taken) (c .refused .ensures)
 
--- src/lib.rt:78:9
 slack-requires : tie.Need-slack-requires
 slack-requires c κs = let s = c .before .before .before .before .before .before .before .before .before in let d = batchCall (s .args .n) (s .args .dim) (s .args .vectors .now) (s .args .params) (s .args .start) (s .args .nodes .now) (s .args .seeds .now) (s .args .wide .now) (s .args .words .now) (s .args .floats .now) in batch-degree d (sym (c .before .batch-number .ensures .is (s .args .words .now) (s .args .floats .now) refl refl) ∙ c .if1 .left)
 
--- src/lib.rt:79:5
 run-batch-requires : tie.Need-run-batch-requires
 run-batch-requires c κs = let s = c .before .before .before .before .before .before .before .before .before .before .before .before .before in let d = batchCall (s .args .n) (s .args .dim) (s .args .vectors .now) (s .args .params) (s .args .start) (s .args .nodes .now) (s .args .seeds .now) (s .args .wide .now) (s .args .words .now) (s .args .floats .now) in batch-ready d (sym (c .before .before .before .before .before .batch-number .ensures .is (s .args .words .now) (s .args .floats .now) refl refl) ∙ c .before .before .before .before .if1 .left) _ (c .before .before .before .slack .ensures)
 
--- src/lib.rt:92:5
 clear-room-requires : tie.Need-clear-room-requires
 clear-room-requires c κs = let s = c .before .before .before .before .before .before .before .before .before .before .before .before .before .before .before .before .before .before .before .before .before .before in let d = batchCall (s .args .n) (s .args .dim) (s .args .vectors .now) (s .args .params) (s .args .start) (s .args .nodes .now) (s .args .seeds .now) (s .args .wide .now) (s .args .words .now) (s .args .floats .now) in batch-room d (sym (c .before .before .before .before .before .before .before .before .before .before .before .before .before .before .batch-number .ensures .is (s .args .words .now) (s .args .floats .now) refl refl) ∙ c .before .before .before .before .before .before .before .before .before .before .before .before .before .if1 .left) _ _ _ (c .before .before .before .before .before .before .before .before .run-batch .ensures)
 
--- src/lib.rt:93:5
 done-requires : tie.Need-done-requires
 done-requires c κs = search needs
 
--- src/lib.rt:47:1
 same-length-2 : tie.Need-same-length-2
 same-length-2 c = search needs
 
--- src/lib.rt:47:1
 same-length-3 : tie.Need-same-length-3
 same-length-3 c = search needs
 
--- src/lib.rt:47:1
 same-length-4 : tie.Need-same-length-4
 same-length-4 c = search needs
 
--- src/lib.rt:47:1
 returns-2 : tie.Need-returns-2
 returns-2 c = let s = c .before .before .before .before .before .before .before .before .before .before .before .before .before .before .before .before .before .before .before .before .before .before .before .before .before .before .before .before in let d = batchCall (s .args .n) (s .args .dim) (s .args .vectors .now) (s .args .params) (s .args .start) (s .args .nodes .now) (s .args .seeds .now) (s .args .wide .now) (s .args .words .now) (s .args .floats .now) in batch-done d (sym (c .before .before .before .before .before .before .before .before .before .before .before .before .before .before .before .before .before .before .before .before .batch-number .ensures .is (s .args .words .now) (s .args .floats .now) refl refl) ∙ c .before .before .before .before .before .before .before .before .before .before .before .before .before .before .before .before .before .before .before .if1 .left) _ _ _ (c .before .before .before .before .before .before .before .before .before .before .before .before .before .before .run-batch .ensures) _ _ _ (c .done .ensures) (c .before .before .before .before .before .clear-room .ensures)
 

@@ -1,81 +1,56 @@
-use mathlib.Core.Path.{_≡_, refl, sym, ap, _∙_, subst}
-use mathlib.Core.Logic.{⊎-elim}
-use Prim.Native.Nat.{ℕ, suc, _+_, _-_, _*_, _≤_, _<_}
-use native.Mathlib.Omega.{arith}
-use lib.ListN.{length, getD, set, take, drop, length-set}
+-- `merge_row`: gathered, then fitted.
 use borrow.Author.Needs.{needs}
 use Rattle.merge.proofs.OneRow.{gather-asks, row-asks, row-merged}
 use lib.ListN.{replicate, length-replicate}
 use lib.Ieee.{ofBits, binary32}
 use Rattle.merge.proofs.merge_row.Statement.{statement}
 use Rattle.merge.proofs.merge_row.Tie as tie
-use Rattle.merge.proofs.merge_row.Reads as reads
-use Rattle.merge.proofs.merge_row.Lts as lts
-use Rattle.merge.proofs.word_of.Reads as word-of-reads
-use Rattle.merging.proofs.gather_node.Reads as gather-node-reads
-use Rattle.settle.proofs.fit_row.Reads as fit-row-reads
 
--- src/lib.rt:70:9
 word-of-requires : tie.Need-word-of-requires
 word-of-requires c κs = search needs
 
--- src/lib.rt:71:17
 mul-links : tie.Need-mul-links
 mul-links c = search needs
 
--- src/lib.rt:72:17
 mul-fresh : tie.Need-mul-fresh
 mul-fresh c = search needs
 
--- src/lib.rt:72:17
 add-fresh : tie.Need-add-fresh
 add-fresh c = search needs
 
--- src/lib.rt:74:80
 slice-aggregate-gather-node : tie.Need-slice-aggregate-gather-node
 slice-aggregate-gather-node c = search needs
 
--- src/lib.rt:73:9
 gather-node-requires : tie.Need-gather-node-requires
 gather-node-requires c κs = gather-asks _ _ _ _ _ _ _ _ _ (c .before .before .before .before .before .before .before .before .pre .1 .0) (c .before .before .before .before .before .before .before .before .pre .1 .1 .0) (c .before .before .before .before .before .before .before .before .pre .0 .0) (c .before .before .before .before .before .before .before .before .pre .0 .1) (c .before .before .before .before .before .before .before .before .pre .1 .1 .1) _ (c .before .before .word-of .ensures)
 
--- src/lib.rt:81:9
 sub-fit-row : tie.Need-sub-fit-row
 sub-fit-row c = search needs
 
--- src/lib.rt:81:9
 part-ids-start : tie.Need-part-ids-start
 part-ids-start c = search needs
 
--- src/lib.rt:81:9
 part-ids-end : tie.Need-part-ids-end
 part-ids-end c = search needs
 
--- src/lib.rt:82:9
 sub-fit-row-2 : tie.Need-sub-fit-row-2
 sub-fit-row-2 c = search needs
 
--- src/lib.rt:82:9
 part-dists-start : tie.Need-part-dists-start
 part-dists-start c = search needs
 
--- src/lib.rt:82:9
 part-dists-end : tie.Need-part-dists-end
 part-dists-end c = search needs
 
--- src/lib.rt:75:5
 fit-row-requires : tie.Need-fit-row-requires
 fit-row-requires c κs = row-asks _ _ _ _ _ _ _ _ _ (c .before .before .before .before .before .before .before .before .before .before .before .before .before .before .pre .1 .0) (c .before .before .before .before .before .before .before .before .before .before .before .before .before .before .pre .1 .1 .0) (c .before .before .before .before .before .before .before .before .before .before .before .before .before .before .pre .0 .0) (c .before .before .before .before .before .before .before .before .before .before .before .before .before .before .pre .0 .1) (c .before .before .before .before .before .before .before .before .before .before .before .before .before .before .pre .1 .1 .1) _ (c .before .before .before .before .before .before .before .before .word-of .ensures) _ _ (c .before .before .before .before .before .gather-node .ensures) (replicate 340 (ofBits binary32 0)) _ (c .before .before .before .before .before .gather-node .kept .1 .1 .1 .1 .1 .1 .1 .1 .0) (length-replicate 340 (ofBits binary32 0)) (c .before .before .before .before .before .before .before .before .before .before .before .before .before .before .pre .0 .2)
 
--- src/lib.rt:50:1
 same-length : tie.Need-same-length
 same-length c = search needs
 
--- src/lib.rt:50:1
 same-length-2 : tie.Need-same-length-2
 same-length-2 c = search needs
 
--- src/lib.rt:50:1
 returns : tie.Need-returns
 returns c = row-merged _ _ _ _ _ _ _ _ _ (c .before .before .before .before .before .before .before .before .before .before .before .before .before .before .before .before .before .before .before .before .before .pre .1 .0) (c .before .before .before .before .before .before .before .before .before .before .before .before .before .before .before .before .before .before .before .before .before .pre .1 .1 .0) (c .before .before .before .before .before .before .before .before .before .before .before .before .before .before .before .before .before .before .before .before .before .pre .0 .0) (c .before .before .before .before .before .before .before .before .before .before .before .before .before .before .before .before .before .before .before .before .before .pre .0 .1) (c .before .before .before .before .before .before .before .before .before .before .before .before .before .before .before .before .before .before .before .before .before .pre .1 .1 .1) _ (c .before .before .before .before .before .before .before .before .before .before .before .before .before .before .before .word-of .ensures) _ _ (c .before .before .before .before .before .before .before .before .before .before .before .before .gather-node .ensures) _ (c .before .before .before .before .before .before .fit-row .ensures)
 

@@ -1,8 +1,9 @@
-use mathlib.Core.Path.{_≡_, refl, sym, ap, _∙_, subst}
+-- `merge_rows`: the rows in turn.
+use mathlib.Core.Path.{_≡_, refl, sym, ap, _∙_}
 use mathlib.Core.Logic.{⊎-elim}
-use Prim.Native.Nat.{ℕ, suc, _+_, _-_, _*_, _≤_, _<_}
+use Prim.Native.Nat.{_-_}
 use native.Mathlib.Omega.{arith}
-use lib.ListN.{length, getD, set, take, drop, length-set}
+use lib.ListN.{length, drop}
 use borrow.Author.Needs.{needs}
 use Rattle.definition.specs.Batch.{mergedRow}
 use Rattle.definition.specs.Outcome.{settingOf}
@@ -12,10 +13,6 @@ use Rattle.merge.specs.Layout.{freshAt}
 use Rattle.merge.proofs.Turns.{turn-fits, turn-row, turn-merged, turn-same, all-merged}
 use Rattle.merge.proofs.merge_rows.Statement.{statement}
 use Rattle.merge.proofs.merge_rows.Tie as tie
-use Rattle.merge.proofs.merge_rows.Reads as reads
-use Rattle.merge.proofs.merge_rows.Lts as lts
-use Rattle.merge.proofs.is_affected.Reads as is-affected-reads
-use Rattle.merge.proofs.merge_row.Reads as merge-row-reads
 
 abbrev Inv-loop : tie.InvT-loop
 Inv-loop n dim vectors params slack nodes wide₀ words factors₀ i₀ wide factors i =
@@ -24,27 +21,21 @@ Inv-loop n dim vectors params slack nodes wide₀ words factors₀ i₀ wide fac
 abbrev μ-loop : tie.MeasureT-loop
 μ-loop n dim vectors params slack nodes wide₀ words factors₀ i₀ wide factors i = n - i
 
--- src/lib.rt:108:5
 loop-holds : tie.Need-loop-holds Inv-loop μ-loop
 loop-holds c = (written-none _ _ _ _ (c .before .before .before .before .before .pre .0 .0), refl)
 
--- src/lib.rt:109:12
 is-affected-requires : tie.Need-is-affected-requires Inv-loop μ-loop
 is-affected-requires c κs = (omega arith, c .before .before .before .before .before .before .before .pre .1 .1 .0)
 
--- src/lib.rt:110:13
 merge-row-requires : tie.Need-merge-row-requires Inv-loop μ-loop
 merge-row-requires c κs = ((omega arith, turn-fits _ _ _ _ _ _ _ _ (c .before .before .before .before .before .before .before .before .before .before .before .pre .1 .0) _ _ (c .before .before .before .before .before .loop .inv .0) (omega arith), omega arith), (c .before .before .before .before .before .before .before .before .before .before .before .pre .1 .0, (c .before .before .before .before .before .before .before .before .before .before .before .pre .1 .1 .0, turn-row _ _ _ _ _ _ _ _ (c .before .before .before .before .before .before .before .before .before .before .before .pre .1 .0) _ _ (c .before .before .before .before .before .loop .inv .0) (omega arith) (c .before .before .before .before .before .before .before .before .before .before .before .pre .1 .1 .1))))
 
--- src/lib.rt:112:9
 add-i : tie.Need-add-i Inv-loop μ-loop
 add-i c = search needs
 
--- src/lib.rt:108:5
 loop-less : tie.Need-loop-less Inv-loop μ-loop
 loop-less c = omega arith
 
--- src/lib.rt:108:5
 loop-again : tie.Need-loop-again Inv-loop μ-loop
 loop-again c =
     ⊎-elim
@@ -52,15 +43,12 @@ loop-again c =
     (λ w. (turn-same _ _ _ _ _ _ _ _ (c .before .before .before .before .before .before .before .before .before .pre .1 .0) _ _ (c .before .before .before .loop .inv .0) (omega (arith, c .before .before .loop-test .taken)) _ (w .1) (sym (w .0 .left) ∙ c .before .is-affected .ensures), ap length (w .2) ∙ c .before .before .before .loop .inv .1))
     (c .if1 .came)
 
--- src/lib.rt:90:1
 same-length : tie.Need-same-length Inv-loop μ-loop
 same-length c = search needs
 
--- src/lib.rt:90:1
 same-length-2 : tie.Need-same-length-2 Inv-loop μ-loop
 same-length-2 c = search needs
 
--- src/lib.rt:90:1
 returns : tie.Need-returns Inv-loop μ-loop
 returns c = all-merged _ _ _ _ _ _ _ _ _ _ (c .before .loop .inv .0) (omega arith)
 

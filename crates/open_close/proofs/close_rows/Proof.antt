@@ -1,16 +1,13 @@
-use mathlib.Core.Path.{_≡_, refl, sym, ap, _∙_, subst}
-use mathlib.Core.Logic.{⊎-elim}
-use Prim.Native.Nat.{ℕ, suc, _+_, _-_, _*_, _≤_, _<_}
+-- `close_rows`: the rows in turn.
+use mathlib.Core.Path.{_≡_, refl, _∙_}
+use Prim.Native.Nat.{_-_}
 use native.Mathlib.Omega.{arith}
-use lib.ListN.{length, getD, set, take, drop, length-set}
+use lib.ListN.{length}
 use borrow.Author.Needs.{needs}
 use Rattle.settle.specs.Table.{Written}
 use Rattle.open_close.proofs.Closing.{closedRow, close-start, close-asks, close-more, close-end}
 use Rattle.open_close.proofs.close_rows.Statement.{statement}
 use Rattle.open_close.proofs.close_rows.Tie as tie
-use Rattle.open_close.proofs.close_rows.Reads as reads
-use Rattle.open_close.proofs.close_rows.Lts as lts
-use Rattle.open_close.proofs.close_row.Reads as close-row-reads
 
 abbrev Inv-loop : tie.InvT-loop
 Inv-loop n dim vectors params slack wide closed₀ factors₀ i₀ closed factors i =
@@ -19,35 +16,27 @@ Inv-loop n dim vectors params slack wide closed₀ factors₀ i₀ closed factor
 abbrev μ-loop : tie.MeasureT-loop
 μ-loop n dim vectors params slack wide closed₀ factors₀ i₀ closed factors i = n - i
 
--- src/lib.rt:102:5
 loop-holds : tie.Need-loop-holds Inv-loop μ-loop
 loop-holds c = (close-start _ _ _ _ _ _ _ _ (c .before .before .before .before .pre), refl)
 
--- src/lib.rt:103:9
 close-row-requires : tie.Need-close-row-requires Inv-loop μ-loop
 close-row-requires c κs = close-asks _ _ _ _ _ _ _ _ (c .before .before .before .before .before .before .before .before .pre) _ _ (c .before .before .before .loop .inv .0) (omega (arith, c .before .before .loop-test .taken)) _ (c .before .before .before .loop .inv .1)
 
--- src/lib.rt:104:9
 add-i : tie.Need-add-i Inv-loop μ-loop
 add-i c = search needs
 
--- src/lib.rt:102:5
 loop-less : tie.Need-loop-less Inv-loop μ-loop
 loop-less c = omega arith
 
--- src/lib.rt:102:5
 loop-again : tie.Need-loop-again Inv-loop μ-loop
 loop-again c = (close-more _ _ _ _ _ _ _ _ (c .before .before .before .before .before .before .before .before .before .before .before .before .before .pre) _ _ (c .before .before .before .before .before .before .before .before .loop .inv .0) (omega (arith, c .before .before .before .before .before .before .before .loop-test .taken)) _ (c .before .before .before .before .before .before .before .before .loop .inv .1) _ (c .before .before .before .before .close-row .kept .1 .1 .1 .1 .1 .1 .1 .0) (c .before .before .before .before .close-row .ensures), c .before .before .before .before .close-row .kept .1 .1 .1 .1 .1 .1 .1 .1 .0 ∙ c .before .before .before .before .before .before .before .before .loop .inv .1)
 
--- src/lib.rt:88:1
 same-length : tie.Need-same-length Inv-loop μ-loop
 same-length c = search needs
 
--- src/lib.rt:88:1
 same-length-2 : tie.Need-same-length-2 Inv-loop μ-loop
 same-length-2 c = search needs
 
--- src/lib.rt:88:1
 returns : tie.Need-returns Inv-loop μ-loop
 returns c = close-end _ _ _ _ _ _ _ _ (c .before .before .before .before .before .before .pre) _ _ (c .before .loop .inv .0) (omega arith)
 

@@ -1,14 +1,13 @@
-use mathlib.Core.Path.{_≡_, refl, sym, ap, _∙_, subst}
+-- `copy_ids`: the ids of a row to the front.
+use mathlib.Core.Path.{_≡_, refl, ap, _∙_}
 use mathlib.Core.Logic.{⊎-elim}
-use Prim.Native.Nat.{ℕ, suc, _+_, _-_, _*_, _≤_, _<_}
+use Prim.Native.Nat.{_-_}
 use native.Mathlib.Omega.{arith}
-use lib.ListN.{length, getD, set, take, drop, length-set}
+use lib.ListN.{length, length-set}
 use borrow.Author.Needs.{needs}
 use Rattle.open_close.proofs.Copying.{Copying, copy-start, copy-id, copy-pad, copy-same, copy-end}
 use Rattle.open_close.proofs.copy_ids.Statement.{statement}
 use Rattle.open_close.proofs.copy_ids.Tie as tie
-use Rattle.open_close.proofs.copy_ids.Reads as reads
-use Rattle.open_close.proofs.copy_ids.Lts as lts
 
 abbrev Inv-loop : tie.InvT-loop
 Inv-loop row out₀ count₀ i₀ out count i = Copying row out count i × (length out ≡ length out₀)
@@ -16,39 +15,30 @@ Inv-loop row out₀ count₀ i₀ out count i = Copying row out count i × (leng
 abbrev μ-loop : tie.MeasureT-loop
 μ-loop row out₀ count₀ i₀ out count i = length row - i
 
--- src/lib.rt:34:5
 loop-holds : tie.Need-loop-holds Inv-loop μ-loop
 loop-holds c = (copy-start _ _ (c .pre), refl)
 
--- src/lib.rt:35:20
 mul-word : tie.Need-mul-word Inv-loop μ-loop
 mul-word c = search needs
 
--- src/lib.rt:35:20
 shared-slice-read-word : tie.Need-shared-slice-read-word Inv-loop μ-loop
 shared-slice-read-word c = search needs
 
--- src/lib.rt:37:13
 mul-out : tie.Need-mul-out Inv-loop μ-loop
 mul-out c = search needs
 
--- src/lib.rt:37:13
 slice-write-out : tie.Need-slice-write-out Inv-loop μ-loop
 slice-write-out c = search needs
 
--- src/lib.rt:38:13
 add-count : tie.Need-add-count Inv-loop μ-loop
 add-count c = search needs
 
--- src/lib.rt:40:9
 add-i : tie.Need-add-i Inv-loop μ-loop
 add-i c = search needs
 
--- src/lib.rt:34:5
 loop-less : tie.Need-loop-less Inv-loop μ-loop
 loop-less c = omega arith
 
--- src/lib.rt:34:5
 loop-again : tie.Need-loop-again Inv-loop μ-loop
 loop-again c =
     ⊎-elim
@@ -56,11 +46,9 @@ loop-again c =
     (λ w. (copy-same _ _ _ _ _ _ (w .1) (w .2) (copy-pad _ _ _ _ (c .before .before .before .loop .inv .0) (omega (arith, c .before .before .loop-test .taken)) (w .0 .left)), ap length (w .1) ∙ c .before .before .before .loop .inv .1))
     (c .if1 .came)
 
--- src/lib.rt:28:1
 same-length : tie.Need-same-length Inv-loop μ-loop
 same-length c = search needs
 
--- src/lib.rt:28:1
 returns : tie.Need-returns Inv-loop μ-loop
 returns c = copy-end _ _ _ _ (c .before .loop .inv .0) (omega (arith, c .loop-test .left))
 

@@ -1,74 +1,51 @@
-use mathlib.Core.Path.{_≡_, refl, sym, ap, _∙_, subst}
-use mathlib.Core.Logic.{⊎-elim}
-use Prim.Native.Nat.{ℕ, suc, _+_, _-_, _*_, _≤_, _<_}
-use native.Mathlib.Omega.{arith}
-use lib.ListN.{length, getD, set, take, drop, length-set}
+-- `clear_room`: two fronts cleared.
 use borrow.Author.Needs.{needs}
 use Rattle.room.specs.Clear.{room-clear}
 use Rattle.room.proofs.clear_room.Statement.{statement}
 use Rattle.room.proofs.clear_room.Tie as tie
-use Rattle.room.proofs.clear_room.Reads as reads
-use Rattle.room.proofs.clear_room.Lts as lts
-use Rattle.laws.proofs.clear_floats.Reads as clear-floats-reads
-use Rattle.laws.proofs.clear_words.Reads as clear-words-reads
 
--- src/lib.rt:11:13
 mul-w : tie.Need-mul-w
 mul-w c = search needs
 
--- src/lib.rt:11:13
 add-w : tie.Need-add-w
 add-w c = search needs
 
--- src/lib.rt:12:13
 mul-f : tie.Need-mul-f
 mul-f c = search needs
 
--- src/lib.rt:12:13
 add-f : tie.Need-add-f
 add-f c = search needs
 
--- src/lib.rt:13:24
 sub-clear-words : tie.Need-sub-clear-words
 sub-clear-words c = search needs
 
--- src/lib.rt:13:24
 part-clear-words-start : tie.Need-part-clear-words-start
 part-clear-words-start c = search needs
 
--- src/lib.rt:13:24
 part-clear-words-end : tie.Need-part-clear-words-end
 part-clear-words-end c = search needs
 
--- src/lib.rt:13:5
 clear-words-requires : tie.Need-clear-words-requires
 clear-words-requires c κs = search needs
 
--- src/lib.rt:14:25
 sub-clear-floats : tie.Need-sub-clear-floats
 sub-clear-floats c = search needs
 
--- src/lib.rt:14:25
 part-clear-floats-start : tie.Need-part-clear-floats-start
 part-clear-floats-start c = search needs
 
--- src/lib.rt:14:25
 part-clear-floats-end : tie.Need-part-clear-floats-end
 part-clear-floats-end c = search needs
 
--- src/lib.rt:14:5
 clear-floats-requires : tie.Need-clear-floats-requires
 clear-floats-requires c κs = search needs
 
--- src/lib.rt:7:1
 same-length : tie.Need-same-length
 same-length c = search needs
 
--- src/lib.rt:7:1
 same-length-2 : tie.Need-same-length-2
 same-length-2 c = search needs
 
--- src/lib.rt:7:1
 returns : tie.Need-returns
 returns c = let s = c .before .before .before .before .before .before .before .before .before .before in room-clear (s .args .n) (s .args .words .now) (s .args .floats .now) _ _ (s .pre .1) (s .pre .2) (c .before .before .before .before .before .before .clear-words .ensures) (c .before .before .clear-floats .ensures)
 

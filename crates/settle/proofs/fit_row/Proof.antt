@@ -1,65 +1,46 @@
+-- `fit_row`: ids kept as they are, or pruned.
 use Rattle.settle.specs.Fits.{fits-short, fits-long, as-measurable}
 use Rattle.metric.specs.Exact.{VectorIn}
-use mathlib.Core.Path.{_≡_, refl, sym, ap, _∙_, subst}
-use mathlib.Core.Logic.{⊎-elim}
-use Prim.Native.Nat.{ℕ, suc, _+_, _-_, _*_, _≤_, _<_}
+use mathlib.Core.Path.{sym, ap, subst}
+use Prim.Native.Nat.{ℕ, _*_}
 use native.Mathlib.Omega.{arith}
-use lib.ListN.{length, getD, set, take, drop, length-set}
 use borrow.Author.Needs.{needs}
 use Rattle.settle.proofs.fit_row.Statement.{statement}
 use Rattle.settle.proofs.fit_row.Tie as tie
-use Rattle.settle.proofs.fit_row.Reads as reads
-use Rattle.settle.proofs.fit_row.Lts as lts
-use Rattle.prune.proofs.prune_into.Reads as prune-into-reads
-use Rattle.settle.proofs.index_of.Reads as index-of-reads
-use Rattle.settle.proofs.measure.Reads as measure-reads
-use Rattle.settle.proofs.put_row.Reads as put-row-reads
 
--- src/lib.rt:84:9
 index-of-requires : tie.Need-index-of-requires
 index-of-requires c κs = search needs
 
--- src/lib.rt:87:9
 put-row-requires : tie.Need-put-row-requires
 put-row-requires c κs = omega (arith, ap (λ (k : ℕ). k * c .before .before .before .before .before .before .before .before .before .args .width) (c .before .before .before .index-of .ensures))
 
--- src/lib.rt:88:9
 same-length : tie.Need-same-length
 same-length c = search needs
 
--- src/lib.rt:88:9
 same-length-2 : tie.Need-same-length-2
 same-length-2 c = search needs
 
--- src/lib.rt:88:9
 returns : tie.Need-returns
 returns c = fits-short _ _ _ _ _ _ _ _ _ (omega arith) _ _ (c .before .before .before .before .before .before .index-of .ensures) (c .before .before .put-row .ensures)
 
--- src/lib.rt:90:5
 measure-requires : tie.Need-measure-requires
 measure-requires c κs = (omega arith, (subst (VectorIn _ _) (sym (c .before .before .before .index-of .ensures)) (c .before .before .before .before .before .before .before .before .before .pre .1 .0), c .before .before .before .before .before .before .before .before .before .pre .1 .1 .0))
 
--- src/lib.rt:91:5
 prune-into-requires : tie.Need-prune-into-requires
 prune-into-requires c κs = (as-measurable _ _ _ _ _ (omega arith) (omega arith) (c .before .before .before .before .before .before .before .before .before .before .before .before .before .before .before .before .pre .1 .1 .0) (c .before .before .before .before .before .before .measure .ensures), (c .before .before .before .before .before .before .before .before .before .before .before .before .before .before .before .before .pre .1 .1 .1, omega (arith, ap (λ (k : ℕ). k * c .before .before .before .before .before .before .before .before .before .before .before .before .before .before .before .before .args .width) (c .before .before .before .before .before .before .before .before .before .before .index-of .ensures))))
 
--- src/lib.rt:66:1
 same-length-3 : tie.Need-same-length-3
 same-length-3 c = search needs
 
--- src/lib.rt:66:1
 same-length-4 : tie.Need-same-length-4
 same-length-4 c = search needs
 
--- src/lib.rt:66:1
 same-length-5 : tie.Need-same-length-5
 same-length-5 c = search needs
 
--- src/lib.rt:66:1
 same-length-6 : tie.Need-same-length-6
 same-length-6 c = search needs
 
--- src/lib.rt:66:1
 returns-2 : tie.Need-returns-2
 returns-2 c = fits-long _ _ _ _ _ _ _ _ _ (omega arith) _ _ _ (c .before .before .before .before .before .before .before .before .before .before .before .before .before .before .before .before .before .before .before .index-of .ensures) (c .before .before .before .before .before .before .before .before .before .before .before .before .before .before .before .measure .ensures) (c .before .before .before .before .before .before .before .before .prune-into .ensures)
 
