@@ -4,25 +4,23 @@ use native.Mathlib.Nat.{le-of-eq}
 use native.Mathlib.Omega.{arith}
 use mathlib.Core.Path.{_≡_, refl, sym, ap, _∙_, subst}
 use mathlib.Core.Bool.{Bool, true, false}
-use mathlib.Core.List.{List, [], _∷_}
+use mathlib.Core.List.{List}
 use borrow.Author.Tests.{ltb-true, ltb-false}
 use borrow.Rule.Slice.PartMut.{putMid}
 use lib.Dec.{ltb}
 use lib.Ieee.{Float}
-use lib.ListN.{length, getD, take, drop, replicate}
+use lib.ListN.{length, getD, replicate}
 use Rattle.definition.specs.declared.Params.{Params}
-use Rattle.definition.specs.Tables.{ids, padded}
-use Rattle.definition.specs.Batch.{Setting, Listed, batch, merged}
+use Rattle.definition.specs.Tables.{padded}
+use Rattle.definition.specs.Batch.{Setting, batch, merged}
 use Rattle.definition.specs.Outcome.{settingOf}
 use Rattle.laws.specs.Parts.{part, Within, part-at, within-at, within-wider, within-trans}
 use Rattle.laws.specs.Words.{padding}
 use Rattle.pooling.specs.Regions.{Below}
-use Rattle.fresh.specs.Listed.{listedAt as listedFresh}
 use Rattle.fresh.specs.Made.{Given, Between, Fit, RowsMade, freshAt as freshOne, FreshRows as AllFresh}
 use Rattle.fresh.specs.Once.{fresh-once, between-start}
 use Rattle.gather.specs.Grown.{mem-at}
 use Rattle.incoming.specs.Says.{entry}
-use Rattle.merging.specs.Naming.{listedAt}
 use Rattle.settle.proofs.Words.{row-id, row-pad}
 use Rattle.merge.specs.Layout.{freshAt}
 use Rattle.merge.specs.Says.{FreshRows, MergeReady, Merged}
@@ -48,12 +46,6 @@ fresh-below g n wide start nodes extra seeds words₀ floats₀ words floats k m
     ∙ part-at (6 * n + 16384 + 64 * (a / 64)) (6 * n + 16384 + 64 * (a / 64) + 64) words (a - 64 * (a / 64)) 0 (omega arith)
     ∙ ap (λ (z : ℕ). getD words z 0) i in
     subst (λ (z : ℕ). z < n) e (word-below n (getD nodes (a / 64) 0) xs (m .fits (a / 64) q) (a - 64 * (a / 64)) (omega arith) (λ z. p (sym e ∙ z)))
-
--- the two crates' lists of listed nodes are one
-listed-same : (nodes t : List ℕ) → listedAt nodes t ≡ listedFresh nodes t
-unfolding listedAt listedFresh
-listed-same [] t = refl
-listed-same (u ∷ us) t = ap (λ (ls : List Listed). record { node = u; fresh = ids (take 64 t) } ∷ ls) (listed-same us (drop 64 t))
 
 -- the marks of the walks at 0; then those of the pool too
 abbrev marked : ℕ → List ℕ → List ℕ → List ℕ
@@ -129,7 +121,7 @@ module _ (n dim : ℕ) (vectors : List ℕ) (p : Params) (width start : ℕ) (no
     batch-run wide′ w₄ f₄ m =
         let l = r .few in
         record {
-          wide-is = m .wide-is ∙ ap (merged (settingOf n dim vectors p) wide) (listed-same nodes (drop (freshAt n) w₃) ∙ a .are);
+          wide-is = m .wide-is ∙ ap (merged (settingOf n dim vectors p) wide) (a .are);
           words-within =
               within-trans 0 (6 * n + 32768) words₀ (blank n words₀ ys zs) w₄ both
               (within-trans 0 (6 * n + 32768) (blank n words₀ ys zs) w₃ w₄

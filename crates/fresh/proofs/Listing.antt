@@ -12,9 +12,9 @@ use lib.Seq.{drop-drop}
 use Rattle.definition.specs.Lists.{keep, groups}
 use Rattle.definition.specs.Tables.{pad, ids, padded}
 use Rattle.definition.specs.Batch.{Setting, Listed, freshOf, freshRows}
+use Rattle.laws.specs.Listed.{listedAt}
 use Rattle.laws.specs.Parts.{part, part-at, within-none, within-wider, within-trans}
 use Rattle.pooling.specs.Regions.{Below}
-use Rattle.fresh.specs.Listed.{listedAt}
 use Rattle.fresh.specs.Made.{Fit, RowMade, RowsMade, freshRow, freshAt}
 
 -- ---- the ids of a padded row

@@ -1,7 +1,6 @@
 -- The fresh rows of a batch: where they lie, what each holds, and that they are the definition's.
 pub mod Says
 pub mod Laws
-pub mod Listed
 pub mod Made
 pub mod Once
 pub mod Ruled

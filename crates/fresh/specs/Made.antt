@@ -12,11 +12,11 @@ use Rattle.definition.specs.Tables.{padded}
 use Rattle.definition.specs.Slack.{slack}
 use Rattle.definition.specs.Batch.{Setting, freshOf, freshRows}
 use Rattle.definition.specs.Outcome.{settingOf}
+use Rattle.laws.specs.Listed.{listedAt}
 use Rattle.laws.specs.Apart.{Apart}
 use Rattle.laws.specs.Parts.{part, Within}
 use Rattle.laws.specs.Words.{Row}
 use Rattle.greedy.specs.Scratch.{Room}
-use Rattle.fresh.specs.Listed.{listedAt}
 
 -- the vectors, the parameters and the wide rows of a batch that is accepted; width is the slack
 pub record Given (n dim width : ℕ) (params : Params) (vectors wide : List ℕ) : Type 0 where

@@ -20,3 +20,4 @@ pub mod Words
 pub mod Writing
 pub mod Draws
 pub mod Remainders
+pub mod Listed

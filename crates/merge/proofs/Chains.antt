@@ -11,10 +11,10 @@ use lib.ListN.{length, getD, drop, replicate, length-drop}
 use lib.Seq.{getD-drop, ext-getD}
 use Rattle.definition.specs.Tables.{pad}
 use Rattle.definition.specs.Batch.{affected}
+use Rattle.laws.specs.Listed.{listedAt}
 use Rattle.laws.specs.Parts.{part, Within, part-length, part-at, put-within, put-part, within-at}
 use Rattle.incoming.specs.Last.{last, last-same, seat}
 use Rattle.incoming.specs.Says.{entry, Laid, Chained, Linked, Seated}
-use Rattle.merging.specs.Naming.{listedAt}
 use Rattle.merging.specs.Affected.{affected-is}
 use Rattle.merging.specs.Says.{Ready}
 use Rattle.merge.specs.Zeroed.{within-past, zeroed-within, zero-part}

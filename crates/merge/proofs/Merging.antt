@@ -9,9 +9,9 @@ use lib.Ieee.{Float}
 use Rattle.definition.specs.declared.Params.{Params}
 use Rattle.definition.specs.Batch.{merged}
 use Rattle.definition.specs.Outcome.{settingOf}
+use Rattle.laws.specs.Listed.{listedAt}
 use Rattle.laws.specs.Parts.{part, Within, part-length, put-within, within-wider}
 use Rattle.laws.specs.Words.{Row}
-use Rattle.merging.specs.Naming.{listedAt}
 use Rattle.settle.specs.Given.{Given}
 use Rattle.merge.specs.Layout.{linksEnd, freshAt, factorsAt, factorsEnd}
 use Rattle.merge.specs.Says.{Gatherable, AllLinked, MergeReady, Merged}

@@ -9,11 +9,11 @@ use Rattle.definition.specs.declared.Params.{Params}
 use Rattle.definition.specs.Tables.{row}
 use Rattle.definition.specs.Batch.{mergedIds, fitted}
 use Rattle.definition.specs.Outcome.{settingOf}
+use Rattle.laws.specs.Listed.{listedAt}
 use Rattle.laws.specs.Words.{Row}
 use Rattle.metric.specs.Exact.{VectorIn}
 use Rattle.pool.specs.Says.{Distinct}
 use Rattle.pool.specs.Free.{asc-distinct}
-use Rattle.merging.specs.Naming.{listedAt}
 use Rattle.merging.specs.Below.{merged-below}
 use Rattle.merging.specs.Says.{Ready, Gathered}
 use Rattle.settle.specs.Fits.{Fitted, fitted-slack, stretched-as}

@@ -10,9 +10,9 @@ use Rattle.definition.specs.Tables.{row, padded}
 use Rattle.definition.specs.Slack.{slack}
 use Rattle.definition.specs.Batch.{Setting, wideRow, affected, mergedIds, fitted, mergedRow, merged}
 use Rattle.definition.specs.Outcome.{settingOf}
+use Rattle.laws.specs.Listed.{listedAt}
 use Rattle.laws.specs.Tables.{row-fits}
 use Rattle.laws.specs.Words.{Row}
-use Rattle.merging.specs.Naming.{listedAt}
 use Rattle.merging.specs.Affected.{merged-alone}
 use Rattle.gather.specs.Entries.{row-ids}
 use Rattle.settle.specs.Fits.{fitted-slack, fitted-few}

@@ -7,11 +7,11 @@ use lib.Ieee.{Float}
 use Rattle.definition.specs.declared.Params.{Params}
 use Rattle.definition.specs.Batch.{mergedIds, fitted, merged}
 use Rattle.definition.specs.Outcome.{settingOf}
+use Rattle.laws.specs.Listed.{listedAt}
 use Rattle.laws.specs.Parts.{Within}
 use Rattle.laws.specs.Words.{padding, Row}
 use Rattle.prune.specs.Says.{Stretched}
 use Rattle.incoming.specs.Says.{entry, Once}
-use Rattle.merging.specs.Naming.{listedAt}
 use Rattle.merging.specs.Says.{Ready}
 use Rattle.settle.specs.Given.{Given}
 use Rattle.merge.specs.Layout.{linksAt, linksEnd, freshAt, factorsAt, factorsEnd}

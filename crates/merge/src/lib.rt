@@ -7,7 +7,7 @@ ghost use Rattle.definition.specs.Batch.{affected, merged};
 ghost use Rattle.definition.specs.Outcome.{settingOf};
 ghost use Rattle.definition.specs.Tables.{row};
 ghost use Rattle.laws.specs.Words.{Row};
-ghost use Rattle.merging.specs.Naming.{listedAt};
+ghost use Rattle.laws.specs.Listed.{listedAt};
 ghost use Rattle.settle.specs.Given.{Given};
 ghost use Rattle.merge.specs.Layout.{freshAt};
 ghost use Rattle.merge.specs.Says.{Unlinked, AllLinked, Gatherable, RowMerged, MergeReady, Merged};

@@ -6,6 +6,7 @@ use mathlib.Core.List.{List, []}
 use borrow.Author.Tests.{eq-eqb, ne-eqb}
 use lib.ListN.{length, getD, take, drop}
 use Rattle.definition.specs.Tables.{pad}
+use Rattle.laws.specs.Listed.{listedAt}
 use Rattle.laws.specs.Rising.{none}
 use Rattle.definition.specs.Batch.{Setting, mergedIds}
 use Rattle.definition.specs.Slack.{slack}
@@ -13,7 +14,7 @@ use Rattle.gather.specs.Grown.{grown, wanted}
 use Rattle.gather.specs.Says.{Rises, Grew}
 use Rattle.incoming.specs.Last.{seat}
 use Rattle.incoming.specs.Says.{Laid, Chained, Once, sources, NamingAdded}
-use Rattle.merging.specs.Naming.{listedAt, baseWords, base-words, base-length, seat-within, gathered}
+use Rattle.merging.specs.Naming.{baseWords, base-words, base-length, seat-within, gathered}
 use Rattle.merging.specs.Says.{Ready, Gathered}
 
 pub base-wide : (words wide : List ℕ) (fresh s node width : ℕ) → s ≡ 0 → take ((node * width + width) - node * width) (drop (node * width) wide) ≡ baseWords words wide fresh s node width

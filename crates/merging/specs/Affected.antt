@@ -10,10 +10,11 @@ use lib.ListN.{length, getD, drop}
 use Rattle.definition.specs.Lists.{isIn, keep, rising}
 use Rattle.definition.specs.Tables.{pad, ids}
 use Rattle.definition.specs.Batch.{Setting, Listed, naming, isListed, affected, base, wideRow, wideIds, mergedIds}
+use Rattle.laws.specs.Listed.{listedAt}
 use Rattle.laws.specs.Members.{Same}
 use Rattle.incoming.specs.Last.{last, named, seat}
 use Rattle.incoming.specs.Says.{entry, sources}
-use Rattle.merging.specs.Naming.{listedAt, sources-naming}
+use Rattle.merging.specs.Naming.{sources-naming}
 
 -- the seat says whether it is listed
 pub seat-listed : (nodes t : List ℕ) (i k : ℕ) → isListed (listedAt nodes t) i ≡ not (eqb (seat nodes i k) 0)

@@ -10,13 +10,14 @@ use lib.ListN.{length, getD, drop}
 use Rattle.definition.specs.Tables.{row}
 use Rattle.definition.specs.Batch.{Setting, naming, base, mergedIds}
 use Rattle.definition.specs.Slack.{slack}
+use Rattle.laws.specs.Listed.{listedAt}
 use Rattle.laws.specs.Rising.{rising-keeps}
 use Rattle.laws.specs.Words.{padding, Row}
 use Rattle.incoming.specs.Last.{seat}
 use Rattle.incoming.specs.Says.{entry}
 use Rattle.gather.specs.Entries.{keep-to, ids-below, row-part}
 use Rattle.merging.specs.Members.{both-to}
-use Rattle.merging.specs.Naming.{listedAt, baseWords, base-words, words-wide, words-listed, seat-within, naming-to}
+use Rattle.merging.specs.Naming.{baseWords, base-words, words-wide, words-listed, seat-within, naming-to}
 
 module _ (g : Setting) (words wide nodes : List ℕ) (fresh node width n : ℕ) (slack-is : width ≡ slack (g .degree)) (own : Row n (row width wide node)) (real : (p : ℕ) → p < length nodes → getD nodes p 0 < n)
     (named : (e : ℕ) → e < length nodes * 64 → (entry words fresh e ≡ padding → ⊥) → entry words fresh e < n) where

@@ -11,22 +11,15 @@ use lib.ListN.{length, getD, take, drop}
 use lib.Seq.{getD-drop, drop-drop}
 use Rattle.definition.specs.Lists.{keep, isIn}
 use Rattle.definition.specs.Tables.{ids, pad, row}
-use Rattle.definition.specs.Batch.{Setting, Listed, naming, base, wideRow, wideIds, mergedIds}
+use Rattle.definition.specs.Batch.{Setting, naming, base, wideRow, wideIds, mergedIds}
 use Rattle.definition.specs.Slack.{slack}
+use Rattle.laws.specs.Listed.{listed, listedAt}
 use Rattle.laws.specs.Members.{Same}
 use Rattle.gather.specs.Grown.{grown, wanted, others, grown-append, grown-rising}
 use Rattle.gather.specs.Entries.{keep-to, keep-from}
 use Rattle.incoming.specs.Last.{named, seat}
 use Rattle.incoming.specs.Says.{entry, sources}
 use Rattle.merging.specs.Members.{both-to, both-left, both-right, map-to, map-from}
-
-abbrev listed : ℕ → List ℕ → Listed
-listed u fresh = record { node = u; fresh = fresh }
-
--- the listed nodes with their fresh rows, which lie 64 words apart
-unfoldable pub listedAt : List ℕ → List ℕ → List Listed
-listedAt [] t = []
-listedAt (u ∷ us) t = listed u (ids (take 64 t)) ∷ listedAt us (drop 64 t)
 
 -- ---- an id in a row
 pub record Stands (i k : ℕ) (t : List ℕ) : Type 0 where

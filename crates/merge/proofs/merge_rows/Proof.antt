@@ -7,7 +7,7 @@ use lib.ListN.{length, drop}
 use borrow.Author.Needs.{needs}
 use Rattle.definition.specs.Batch.{mergedRow}
 use Rattle.definition.specs.Outcome.{settingOf}
-use Rattle.merging.specs.Naming.{listedAt}
+use Rattle.laws.specs.Listed.{listedAt}
 use Rattle.settle.specs.Table.{Written, written-none}
 use Rattle.merge.specs.Layout.{freshAt}
 use Rattle.merge.proofs.Turns.{turn-fits, turn-row, turn-merged, turn-same, all-merged}

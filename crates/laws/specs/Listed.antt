@@ -5,10 +5,10 @@ use lib.ListN.{take, drop}
 use Rattle.definition.specs.Tables.{ids}
 use Rattle.definition.specs.Batch.{Listed}
 
-abbrev listed : ℕ → List ℕ → Listed
+abbrev pub listed : ℕ → List ℕ → Listed
 listed u fresh = record { node = u; fresh = fresh }
 
--- the listed nodes with their fresh rows, which lie 64 words apart
+-- the fresh rows lie 64 words apart
 unfoldable pub listedAt : List ℕ → List ℕ → List Listed
 listedAt [] t = []
 listedAt (u ∷ us) t = listed u (ids (take 64 t)) ∷ listedAt us (drop 64 t)
