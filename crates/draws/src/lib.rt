@@ -19,6 +19,7 @@ mod seeds;
 mod step; // the generator's step, and the draw that a state gives
 
 // A state, and what a call answers.
+#[repr(C)]
 pub struct Stepped {
     pub state: u64,
     pub answer: Answer,

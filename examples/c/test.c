@@ -1,0 +1,374 @@
+/* Checks of the library through C: cases of docs/01-scope.md with their outcomes, and refusals, each of which must give its number and change nothing. */
+#include <fjalgrout.h>
+#include <math.h>
+#include <stdio.h>
+#include <string.h>
+
+#define PAD FJALGROUT_PADDING
+
+static int checks, failures;
+
+static void check_at(int line, const char *text, int holds) {
+    checks++;
+    if (!holds) {
+        failures++;
+        printf("line %d: %s\n", line, text);
+    }
+}
+#define CHECK(x) check_at(__LINE__, #x, (x))
+
+/* The fields beside the number, all 0 in a refusal and in a call that only fills slices; the distance is +0.0. */
+static int only(fjalgrout_answer a, uint32_t number) {
+    return a.number == number && a.count == 0 && a.id == 0 && a.draw == 0 && a.distance == 0 && !signbit(a.distance);
+}
+
+/* ---- distance */
+
+static void test_distance(void) {
+    uint8_t low[257] = {0}, high[257];
+    memset(high, 255, sizeof high);
+    CHECK(fjalgrout_distance(low, 1, high, 1).distance == 65025);
+    CHECK(fjalgrout_distance(low, 256, high, 256).distance == 16646400);
+    CHECK(fjalgrout_distance(low, 256, high, 256).number == 0);
+    CHECK(only(fjalgrout_distance(low, 257, high, 257), 1));
+    CHECK(only(fjalgrout_distance(low, 0, high, 0), 1));
+    CHECK(only(fjalgrout_distance(low, 257, high, 1), 1));
+    CHECK(only(fjalgrout_distance(low, 4, high, 5), 11));
+}
+
+/* ---- the line: dim 1, degree 2, start 0 */
+
+static const uint8_t line[4] = {10, 20, 30, 40}, bent[4] = {10, 20, 30, 25};
+static const uint32_t line_rows[8] = {1, PAD, 0, 2, 1, 3, 2, PAD};
+
+/* One search with all that it is lent; every slice has guards behind its room, and a pattern to begin with. */
+struct searching {
+    size_t n, dim, vectors_count, degree, beam, k, table_count, query_count, words_count, floats_count, ids_count, dists_count;
+    uint32_t start, table[8];
+    const uint8_t *vectors;
+    uint8_t query;
+    uint32_t words[2 * 4 + 256 + 4], ids[12];
+    float floats[4 + 256 + 4], dists[12];
+};
+
+static struct searching the_line(uint8_t query, size_t beam, size_t k) {
+    struct searching s;
+    memset(&s, 0x5A, sizeof s);
+    s.n = 4, s.dim = 1, s.vectors_count = 4, s.degree = 2, s.beam = beam, s.k = k, s.start = 0;
+    s.vectors = line, s.query = query, s.query_count = 1, s.table_count = 8;
+    memcpy(s.table, line_rows, sizeof line_rows);
+    s.words_count = fjalgrout_search_words(4), s.floats_count = fjalgrout_search_floats(4);
+    s.ids_count = s.dists_count = fjalgrout_most_answers(beam, k);
+    return s;
+}
+
+static fjalgrout_answer search(struct searching *s) {
+    return fjalgrout_search(s->n, s->dim, s->vectors, s->vectors_count, s->degree, s->beam, s->k, s->start, s->table, s->table_count, &s->query,
+                            s->query_count, s->words, s->words_count, s->floats, s->floats_count, s->ids, s->ids_count, s->dists, s->dists_count);
+}
+
+static void answers_at(int at, struct searching s, size_t count, const uint32_t *ids, const float *dists) {
+    struct searching before = s;
+    fjalgrout_answer a = search(&s);
+    check_at(at, "done", a.number == 0 && a.id == 0 && a.draw == 0 && a.distance == 0);
+    check_at(at, "count", a.count == count);
+    check_at(at, "ids", memcmp(s.ids, ids, count * 4) == 0);
+    check_at(at, "distances", memcmp(s.dists, dists, count * sizeof(float)) == 0);
+    check_at(at, "ids beyond the answers", memcmp(s.ids + count, before.ids + count, sizeof s.ids - count * 4) == 0);
+    check_at(at, "distances beyond the answers", memcmp(s.dists + count, before.dists + count, sizeof s.dists - count * sizeof(float)) == 0);
+    int zero = 1;
+    for (size_t i = 0; i < s.words_count; i++) zero = zero && s.words[i] == 0;
+    for (size_t i = 0; i < s.floats_count; i++) zero = zero && s.floats[i] == 0 && !signbit(s.floats[i]);
+    check_at(at, "room left zero", zero);
+    check_at(at, "words beyond the room", memcmp(s.words + s.words_count, before.words + s.words_count, 16) == 0);
+    check_at(at, "floats beyond the room", memcmp(s.floats + s.floats_count, before.floats + s.floats_count, 16) == 0);
+}
+#define ANSWERS(s, count, ids, dists) answers_at(__LINE__, s, count, ids, dists)
+
+static void refuses_at(int at, struct searching s, uint32_t number) {
+    struct searching before = s;
+    fjalgrout_answer a = search(&s);
+    check_at(at, "refused by its number", only(a, number));
+    check_at(at, "nothing changed", memcmp(&s, &before, sizeof s) == 0);
+}
+
+static void test_search(void) {
+    ANSWERS(the_line(38, 2, 2), 2, ((uint32_t[]){3, 2}), ((float[]){4, 64}));
+    ANSWERS(the_line(38, 1, 2), 1, ((uint32_t[]){0}), ((float[]){784}));
+    ANSWERS(the_line(38, 0, 2), 1, ((uint32_t[]){0}), ((float[]){784}));
+    ANSWERS(the_line(38, 8, 8), 4, ((uint32_t[]){3, 2, 1, 0}), ((float[]){4, 64, 324, 784}));
+    ANSWERS(the_line(25, 4, 4), 4, ((uint32_t[]){1, 2, 0, 3}), ((float[]){25, 25, 225, 225}));
+    ANSWERS(the_line(38, 2, 0), 0, ((uint32_t[]){0}), ((float[]){0}));
+    struct searching s = the_line(25, 2, 2);
+    s.vectors = bent;
+    ANSWERS(s, 2, ((uint32_t[]){1, 2}), ((float[]){25, 25}));
+}
+
+#define REFUSES(number, change) \
+    do { \
+        struct searching s = the_line(38, 2, 2); \
+        change; \
+        refuses_at(__LINE__, s, number); \
+    } while (0)
+
+static void test_search_refusals(void) {
+    REFUSES(1, s.dim = 0);
+    REFUSES(1, s.dim = 257);
+    REFUSES(2, s.n = 0);
+    REFUSES(2, s.n = 65537);
+    REFUSES(2, s.vectors_count = 3);
+    REFUSES(2, (s.n = (size_t)1 << 63, s.dim = 2, s.vectors_count = 0));
+    REFUSES(3, s.degree = 0);
+    REFUSES(3, s.degree = 65);
+    REFUSES(4, s.beam = 257);
+    REFUSES(6, s.start = 4);
+    REFUSES(8, s.table_count = 7);
+    REFUSES(8, s.table[5] = 4);
+    REFUSES(8, s.table[7] = PAD - 1);
+    REFUSES(10, s.words_count--);
+    REFUSES(10, s.floats_count--);
+    REFUSES(10, s.ids_count--);
+    REFUSES(10, s.dists_count--);
+    REFUSES(11, s.query_count = 0);
+    /* two faults: the lower number */
+    REFUSES(1, (s.dim = 0, s.start = 9));
+    REFUSES(4, (s.beam = 257, s.query_count = 0));
+    REFUSES(8, (s.table_count = 7, s.words_count = 0));
+    REFUSES(10, (s.words_count = 0, s.query_count = 0));
+}
+
+/* ---- the run of records: as the search, and the run beside it */
+
+static fjalgrout_answer run_records(struct searching *s, fjalgrout_candidate *run, size_t run_count) {
+    return fjalgrout_records(s->n, s->dim, s->vectors, s->vectors_count, s->degree, s->beam, s->k, s->start, s->table, s->table_count, &s->query,
+                             s->query_count, s->words, s->words_count, s->floats, s->floats_count, s->ids, s->ids_count, s->dists, s->dists_count,
+                             run, run_count);
+}
+
+static void test_records(void) {
+    fjalgrout_candidate run[4], kept[4];
+    memset(run, 0x5A, sizeof run), memcpy(kept, run, sizeof run);
+    struct searching s = the_line(38, 2, 2), before = s, plain = s;
+    CHECK(only(run_records(&s, run, 1), 10));
+    CHECK(memcmp(&s, &before, sizeof s) == 0 && memcmp(run, kept, sizeof run) == 0);
+    s.start = before.start = 4;
+    CHECK(only(run_records(&s, run, 0), 6));
+    CHECK(memcmp(&s, &before, sizeof s) == 0 && memcmp(run, kept, sizeof run) == 0);
+    s.start = 0;
+    fjalgrout_answer a = run_records(&s, run, 4), b = search(&plain);
+    CHECK(a.number == 0 && a.count == 2 && b.count == 2 && memcmp(&s, &plain, sizeof s) == 0);
+    CHECK(run[0].id == 3 && run[0].distance == 4 && run[1].id == 2 && run[1].distance == 64);
+    CHECK(memcmp(run + 2, kept + 2, 16) == 0);
+}
+
+/* ---- medoid */
+
+static void test_medoid(void) {
+    uint32_t pivots[9] = {0, 3, 0, 0, 0, 0, 0, 0, 0}, far[1] = {4};
+    fjalgrout_answer a = fjalgrout_medoid(4, 1, line, 4, pivots, 2);
+    CHECK(a.number == 0 && a.id == 1 && a.count == 0 && a.draw == 0 && a.distance == 0);
+    CHECK(only(fjalgrout_medoid(4, 0, line, 4, pivots, 2), 1));
+    CHECK(only(fjalgrout_medoid(4, 1, line, 3, pivots, 2), 2));
+    CHECK(only(fjalgrout_medoid(4, 1, line, 4, pivots, 0), 12));
+    CHECK(only(fjalgrout_medoid(4, 1, line, 4, pivots, 9), 12));
+    CHECK(only(fjalgrout_medoid(4, 1, line, 4, far, 1), 12));
+}
+
+/* ---- draws */
+
+static void test_draws(void) {
+    fjalgrout_stepped s = fjalgrout_draw(0, 100);
+    CHECK(s.answer.number == 0 && s.answer.draw == 7 && s.state == UINT64_C(1442695040888963407));
+    CHECK(fjalgrout_draw(5, 0).answer.draw == 0);
+    uint32_t out[8], kept[8];
+    memset(out, 0x5A, sizeof out), memset(kept, 0x5A, sizeof kept);
+    s = fjalgrout_order(9, 0, out, 8);
+    CHECK(only(s.answer, 2) && s.state == 9);
+    s = fjalgrout_order(9, 8, out, 7);
+    CHECK(only(s.answer, 10) && s.state == 9);
+    s = fjalgrout_pivots(9, 65537, out, 8);
+    CHECK(only(s.answer, 2) && s.state == 9);
+    s = fjalgrout_pivots(9, 5, out, 4);
+    CHECK(only(s.answer, 10) && s.state == 9);
+    s = fjalgrout_seeds(9, 4, 4, 1, out, 8);
+    CHECK(only(s.answer, 6) && s.state == 9);
+    s = fjalgrout_seeds(9, 4, 0, 4, out, 8);
+    CHECK(only(s.answer, 7) && s.state == 9);
+    s = fjalgrout_seeds(9, 65536, 0, 17, out, 8);
+    CHECK(only(s.answer, 7) && s.state == 9);
+    s = fjalgrout_seeds(9, 4, 0, 3, out, 2);
+    CHECK(only(s.answer, 10) && s.state == 9);
+    s = fjalgrout_rows(9, 4, 65, out, 8);
+    CHECK(only(s.answer, 3) && s.state == 9);
+    s = fjalgrout_rows(9, 4, 2, out, 7);
+    CHECK(only(s.answer, 8) && s.state == 9);
+    CHECK(memcmp(out, kept, sizeof out) == 0);
+    s = fjalgrout_order(9, 6, out, 8);
+    uint32_t seen = 0;
+    for (int i = 0; i < 6; i++) seen |= UINT32_C(1) << (out[i] & 31);
+    CHECK(only(s.answer, 0) && s.state != 9 && seen == 63);
+    CHECK(memcmp(out + 6, kept + 6, 8) == 0);
+    s = fjalgrout_seeds(9, 4, 2, 3, out, 3);
+    CHECK(only(s.answer, 0) && (1u << out[0] | 1u << out[1] | 1u << out[2]) == 11);
+    s = fjalgrout_rows(9, 1, 2, out, 2);
+    CHECK(only(s.answer, 0) && s.state == 9 && out[0] == PAD && out[1] == PAD);
+    s = fjalgrout_rows(9, 4, 2, out, 8);
+    CHECK(only(s.answer, 0) && s.state != 9);
+    for (uint32_t i = 0; i < 4; i++) CHECK(out[2 * i] < 4 && out[2 * i + 1] < 4 && out[2 * i] != out[2 * i + 1] && out[2 * i] != i && out[2 * i + 1] != i);
+}
+
+/* ---- build, batch, open, close */
+
+static uint32_t words[6 * 4 + 32768 + 1];
+static float floats[4 * 4 + 1024 + 1];
+
+/* A batch of node 0 alone, at the origin, whose row names every other entry, with degree 4. The merge sorts the pruned row by id, so that it is what
+ * pruning took that is seen here, and not in which order. */
+static void pruned_at(int at, size_t n, const uint8_t *vectors, float alpha, const uint32_t *row) {
+    const size_t slack = fjalgrout_slack(4);
+    uint32_t wide[4 * 6], node = 0;
+    fjalgrout_params params = {4, 0, alpha, 0};
+    for (size_t i = 0; i < n * slack; i++) wide[i] = PAD;
+    for (uint32_t i = 1; i < n; i++) wide[i - 1] = i;
+    fjalgrout_answer a = fjalgrout_batch(n, 2, vectors, 2 * n, params, 0, &node, 1, &node, 0, wide, n * slack, words, fjalgrout_build_words(n), floats,
+                                         fjalgrout_build_floats(n));
+    check_at(at, "batch done", only(a, 0));
+    check_at(at, "the pruned row", memcmp(wide, row, 16) == 0);
+}
+
+static void test_pruning(void) {
+    static const uint8_t four[8] = {0, 0, 20, 0, 11, 18, 0, 30}, three[6] = {0, 0, 10, 0, 5, 9};
+    pruned_at(__LINE__, 4, four, 1.0f, (uint32_t[]){1, 3, PAD, PAD});
+    pruned_at(__LINE__, 4, four, 1.2f, (uint32_t[]){1, 2, 3, PAD});
+    pruned_at(__LINE__, 4, four, NAN, (uint32_t[]){1, 3, PAD, PAD});
+    pruned_at(__LINE__, 3, three, 1.0f, (uint32_t[]){1, 2, PAD, PAD});
+}
+
+struct building {
+    size_t n, dim, vectors_count, order_count, seeds_count, opening_count, wide_count, closed_count, words_count, floats_count;
+    fjalgrout_params params;
+    uint32_t start, order[4], seeds[4], opening[8], wide[12], closed[8];
+};
+
+static struct building the_build(void) {
+    struct building b;
+    memset(&b, 0x5A, sizeof b);
+    b.n = 4, b.dim = 1, b.vectors_count = 4, b.order_count = 4, b.seeds_count = 4, b.opening_count = 8, b.wide_count = 12, b.closed_count = 8;
+    b.params = (fjalgrout_params){2, 8, 1.2f, 1};
+    b.start = 0;
+    memcpy(b.order, (uint32_t[]){3, 1, 0, 2}, 16), memcpy(b.seeds, (uint32_t[]){1, 2, 3, 1}, 16), memcpy(b.opening, line_rows, 32);
+    b.words_count = fjalgrout_build_words(4), b.floats_count = fjalgrout_build_floats(4);
+    return b;
+}
+
+static fjalgrout_answer build(struct building *b) {
+    return fjalgrout_build(b->n, b->dim, line, b->vectors_count, b->params, b->start, b->order, b->order_count, b->seeds, b->seeds_count, b->opening,
+                           b->opening_count, b->wide, b->wide_count, b->closed, b->closed_count, words, b->words_count, floats, b->floats_count);
+}
+
+static void build_refuses_at(int at, struct building b, uint32_t number) {
+    static uint32_t words_before[sizeof words / 4];
+    static float floats_before[sizeof floats / 4];
+    struct building before = b;
+    memset(words, 0x5A, sizeof words), memset(floats, 0x5A, sizeof floats);
+    memcpy(words_before, words, sizeof words), memcpy(floats_before, floats, sizeof floats);
+    fjalgrout_answer a = build(&b);
+    check_at(at, "refused by its number", only(a, number));
+    check_at(at, "nothing changed", memcmp(&b, &before, sizeof b) == 0);
+    check_at(at, "no scratch changed", memcmp(words, words_before, sizeof words) == 0 && memcmp(floats, floats_before, sizeof floats) == 0);
+}
+#define BUILD_REFUSES(number, change) \
+    do { \
+        struct building b = the_build(); \
+        change; \
+        build_refuses_at(__LINE__, b, number); \
+    } while (0)
+
+static void test_build(void) {
+    struct building b = the_build();
+    memset(words, 0x5A, sizeof words), memset(floats, 0x5A, sizeof floats);
+    CHECK(only(build(&b), 0));
+    int lawful = 1, zero = 1;
+    for (uint32_t i = 0; i < 4; i++)
+        for (int j = 0; j < 2; j++) lawful = lawful && b.closed[2 * i + j] != i && (b.closed[2 * i + j] < 4 || b.closed[2 * i + j] == PAD);
+    for (size_t i = 0; i < b.words_count; i++) zero = zero && words[i] == 0;
+    for (size_t i = 0; i < b.floats_count; i++) zero = zero && floats[i] == 0;
+    CHECK(lawful && zero);
+    CHECK(words[b.words_count] == 0x5A5A5A5A);
+    struct searching s = the_line(38, 4, 4);
+    memcpy(s.table, b.closed, sizeof b.closed);
+    ANSWERS(s, 4, ((uint32_t[]){3, 2, 1, 0}), ((float[]){4, 64, 324, 784}));
+
+    BUILD_REFUSES(1, b.dim = 257);
+    BUILD_REFUSES(2, b.vectors_count = 3);
+    BUILD_REFUSES(3, b.params.degree = 65);
+    BUILD_REFUSES(4, b.params.beam = 257);
+    BUILD_REFUSES(5, b.params.alpha = nextafterf(4.0f, 5.0f));
+    BUILD_REFUSES(5, b.params.alpha = INFINITY);
+    BUILD_REFUSES(6, b.start = 4);
+    BUILD_REFUSES(7, b.params.extra = 4);
+    BUILD_REFUSES(7, b.seeds[2] = 0);
+    BUILD_REFUSES(7, b.seeds_count = 3);
+    BUILD_REFUSES(8, b.opening[0] = 0);
+    BUILD_REFUSES(8, b.wide_count = 11);
+    BUILD_REFUSES(8, b.closed_count = 7);
+    BUILD_REFUSES(9, b.order[0] = 1);
+    BUILD_REFUSES(10, b.words_count--);
+    BUILD_REFUSES(10, b.floats_count--);
+    b = the_build(), b.params.alpha = 4.0f;
+    CHECK(only(build(&b), 0));
+}
+
+static void test_one_entry(void) {
+    fjalgrout_params params = {2, 4, 1.2f, 1};
+    uint32_t opening[2] = {PAD, PAD}, wide[3], closed[2], order = 0, seed = 0;
+    uint8_t vector = 9;
+    fjalgrout_answer a = fjalgrout_build(1, 1, &vector, 1, params, 0, &order, 1, &seed, 1, opening, 2, wide, 3, closed, 2, words,
+                                         fjalgrout_build_words(1), floats, fjalgrout_build_floats(1));
+    CHECK(only(a, 7));
+    params.extra = 0;
+    a = fjalgrout_build(1, 1, &vector, 1, params, 0, &order, 1, &seed, 0, opening, 2, wide, 3, closed, 2, words, fjalgrout_build_words(1), floats,
+                        fjalgrout_build_floats(1));
+    CHECK(only(a, 0) && closed[0] == PAD && closed[1] == PAD);
+}
+
+static void test_open_close(void) {
+    fjalgrout_params params = {2, 999, 1.2f, 999};
+    uint32_t wide[12], closed[8], kept[12];
+    memset(kept, 0x5A, sizeof kept), memcpy(wide, kept, sizeof wide), memcpy(closed, kept, sizeof closed);
+    CHECK(only(fjalgrout_open(0, 2, line_rows, 8, wide, 12), 2));
+    CHECK(only(fjalgrout_open(4, 0, line_rows, 8, wide, 12), 3));
+    CHECK(only(fjalgrout_open(4, 2, line_rows, 7, wide, 12), 8));
+    CHECK(only(fjalgrout_open(4, 2, line_rows, 8, wide, 11), 8));
+    CHECK(memcmp(wide, kept, sizeof wide) == 0);
+    CHECK(only(fjalgrout_open(4, 2, line_rows, 8, wide, 12), 0));
+    CHECK(memcmp(wide, (uint32_t[]){1, PAD, PAD, 0, 2, PAD, 1, 3, PAD, 2, PAD, PAD}, sizeof wide) == 0);
+    size_t words_count = fjalgrout_build_words(4), floats_count = fjalgrout_build_floats(4);
+    CHECK(only(fjalgrout_close(4, 1, line, 4, params, wide, 12, closed, 7, words, words_count, floats, floats_count), 8));
+    CHECK(only(fjalgrout_close(4, 1, line, 4, params, wide, 12, closed, 8, words, words_count - 1, floats, floats_count), 10));
+    CHECK(memcmp(closed, kept, sizeof closed) == 0);
+    CHECK(only(fjalgrout_close(4, 1, line, 4, params, wide, 12, closed, 8, words, words_count, floats, floats_count), 0));
+    CHECK(memcmp(closed, line_rows, sizeof closed) == 0);
+}
+
+static void test_defaults(void) {
+    fjalgrout_params p = fjalgrout_defaults();
+    CHECK(p.degree == 64 && p.beam == 128 && p.alpha == 1.2f && p.extra == 1);
+    CHECK(fjalgrout_slack(1) == 2 && fjalgrout_slack(10) == 13 && fjalgrout_slack(64) == 84);
+}
+
+int main(void) {
+    test_defaults();
+    test_distance();
+    test_search();
+    test_search_refusals();
+    test_records();
+    test_medoid();
+    test_draws();
+    test_pruning();
+    test_build();
+    test_one_entry();
+    test_open_close();
+    printf("%d checks, %d failed\n", checks, failures);
+    return failures != 0;
+}

@@ -1,0 +1,125 @@
+//! The cases of docs/01-scope.md that a public call shows, with their outcomes.
+
+mod lent;
+
+use fjalgrout::{batch, build, build_room, distance, medoid, slack, Generator, Params, Refusal, Scratch, PADDING};
+use lent::{line_search, vectors, Search, LINE};
+
+#[test]
+fn distances() {
+    assert_eq!(distance(&[0], &[255]), Ok(65_025.0));
+    assert_eq!(distance(&[0; 256], &[255; 256]), Ok(16_646_400.0));
+    assert_eq!(distance(&[0; 257], &[255; 257]), Err(Refusal(1)));
+}
+
+#[test]
+fn the_line() {
+    assert_eq!(line_search(38, 2, 2).answers(), Ok(vec![(3, 4.0), (2, 64.0)]));
+    assert_eq!(line_search(38, 1, 2).answers(), Ok(vec![(0, 784.0)]));
+    assert_eq!(line_search(38, 0, 2).answers(), Ok(vec![(0, 784.0)]));
+    assert_eq!(line_search(38, 8, 8).answers(), Ok(vec![(3, 4.0), (2, 64.0), (1, 324.0), (0, 784.0)]));
+    assert_eq!(line_search(25, 4, 4).answers(), Ok(vec![(1, 25.0), (2, 25.0), (0, 225.0), (3, 225.0)]));
+    assert_eq!(line_search(38, 2, 0).answers(), Ok(vec![]));
+}
+
+/// Entry 3 at 0 is missed: the walk stops before it.
+#[test]
+fn an_entry_that_is_missed() {
+    let bent = Search {
+        bytes: vec![10, 20, 30, 25],
+        ..line_search(25, 2, 2)
+    };
+    assert_eq!(bent.answers(), Ok(vec![(1, 25.0), (2, 25.0)]));
+}
+
+/// Scores 900, 500, 500, 900.
+#[test]
+fn the_medoid_of_the_line() {
+    assert_eq!(medoid(vectors(4, 1, &LINE), &[0, 3]), Ok(1));
+}
+
+#[test]
+fn the_first_draw() {
+    let mut generator = Generator::new(0);
+    assert_eq!(generator.draw(100), 7);
+    assert_eq!(generator.state, 1_442_695_040_888_963_407);
+    assert_eq!(generator.draw(0), 0);
+}
+
+#[test]
+fn the_defaults() {
+    let defaults = Params {
+        degree: 64,
+        beam: 128,
+        alpha: 1.2,
+        extra: 1,
+    };
+    assert_eq!(Params::default(), defaults);
+}
+
+/// The row that a batch of node 0 alone leaves, where its row named every other entry; degree 4. The merge sorts it by id, so that what pruning took is
+/// seen here, and not in which order.
+fn pruned(n: usize, bytes: &[u8], alpha: f32) -> Vec<u32> {
+    let params = Params {
+        degree: 4,
+        beam: 0,
+        alpha,
+        extra: 0,
+    };
+    let mut wide = vec![PADDING; n * slack(4)];
+    for id in 1..n {
+        wide[id - 1] = id as u32;
+    }
+    let (mut words, mut floats) = (vec![0; build_room(n).words], vec![0.0; build_room(n).floats]);
+    let scratch = Scratch {
+        words: &mut words,
+        floats: &mut floats,
+    };
+    assert_eq!(batch(vectors(n, 2, bytes), params, 0, &[0], &[], &mut wide, scratch), Ok(()));
+    wide[..slack(4)].iter().copied().take_while(|&word| word != PADDING).collect()
+}
+
+#[test]
+fn pruning() {
+    let four = [0, 0, 20, 0, 11, 18, 0, 30];
+    assert_eq!(pruned(4, &four, 1.0), [1, 3]);
+    assert_eq!(pruned(4, &four, 1.2), [1, 2, 3]);
+    assert_eq!(pruned(4, &four, f32::NAN), [1, 3]);
+    assert_eq!(pruned(4, &four, 0.5), [1, 3]);
+    assert_eq!(pruned(3, &[0, 0, 10, 0, 5, 9], 1.0), [1, 2]);
+}
+
+fn one_entry(alpha: f32, extra: usize) -> Result<Vec<u32>, Refusal> {
+    let params = Params {
+        degree: 2,
+        beam: 4,
+        alpha,
+        extra,
+    };
+    let (mut wide, mut closed) = ([5; 3], [5; 2]);
+    let (mut words, mut floats) = (vec![5; build_room(1).words], vec![5.0; build_room(1).floats]);
+    let scratch = Scratch {
+        words: &mut words,
+        floats: &mut floats,
+    };
+    build(
+        vectors(1, 1, &[9]),
+        params,
+        0,
+        &[0],
+        &vec![0; extra],
+        &[PADDING; 2],
+        &mut wide,
+        &mut closed,
+        scratch,
+    )?;
+    Ok(closed.to_vec())
+}
+
+#[test]
+fn a_single_entry() {
+    assert_eq!(one_entry(1.2, 1), Err(Refusal(7)));
+    assert_eq!(one_entry(1.2, 0), Ok(vec![PADDING; 2]));
+    assert_eq!(one_entry(4.0, 0), Ok(vec![PADDING; 2]));
+    assert_eq!(one_entry(f32::from_bits(4.0f32.to_bits() + 1), 0), Err(Refusal(5)));
+}

@@ -1,0 +1,122 @@
+//! A build from drawn rows, order, seeds and pivots, and searches of the table that it leaves.
+
+mod lent;
+
+use fjalgrout::{distance, medoid, Generator, Params, PADDING};
+use lent::{line_build, line_search, vectors, Build, Search};
+
+const DIM: usize = 16;
+
+/// Crossings around ten centres, and a build over them, all from one generator.
+fn drawn_build(n: usize, params: Params, seed: u64) -> Build {
+    let mut generator = Generator::new(seed);
+    let centres: Vec<u32> = (0..10 * DIM).map(|_| generator.draw(236)).collect();
+    let bytes: Vec<u8> = (0..n * DIM)
+        .map(|i| (centres[i / DIM % 10 * DIM + i % DIM] + generator.draw(20)) as u8)
+        .collect();
+    let (mut pivots, mut order, mut seeds, mut opening) = ([0; 8], vec![0; n], vec![0; n * params.extra], vec![0; n * params.degree]);
+    generator.pivots(n, &mut pivots).unwrap();
+    let start = medoid(vectors(n, DIM, &bytes), &pivots).unwrap();
+    generator.order(n, &mut order).unwrap();
+    for group in seeds.chunks_mut(params.extra) {
+        generator.seeds(n, start, params.extra, group).unwrap();
+    }
+    generator.rows(n, params.degree, &mut opening).unwrap();
+    Build {
+        n,
+        dim: DIM,
+        bytes,
+        params,
+        start,
+        order,
+        seeds,
+        opening,
+        short: [0; 4],
+    }
+}
+
+/// The build rule: distinct ids below n, not its own, then only padding.
+fn is_lawful(n: usize, degree: usize, table: &[u32]) -> bool {
+    table.chunks(degree).enumerate().all(|(i, row)| {
+        let many = row.iter().take_while(|&&word| word != PADDING).count();
+        let (ids, rest) = row.split_at(many);
+        let distinct = ids.iter().enumerate().all(|(j, id)| !ids[..j].contains(id));
+        distinct && ids.iter().all(|&id| (id as usize) < n && id as usize != i) && rest.iter().all(|&word| word == PADDING)
+    })
+}
+
+/// Every answer by distance, then id, from a walk over all entries.
+fn all_answers(bytes: &[u8], query: &[u8]) -> Vec<(u32, f32)> {
+    let mut answers: Vec<_> = bytes.chunks(DIM).enumerate().map(|(i, v)| (i as u32, distance(v, query).unwrap())).collect();
+    answers.sort_by(|a, b| a.1.total_cmp(&b.1).then(a.0.cmp(&b.0)));
+    answers
+}
+
+#[test]
+fn the_line_is_built_and_searched() {
+    let rows = line_build().table().unwrap();
+    assert!(is_lawful(4, 2, &rows));
+    let search = Search { rows, ..line_search(38, 4, 4) };
+    assert_eq!(search.answers(), Ok(vec![(3, 4.0), (2, 64.0), (1, 324.0), (0, 784.0)]));
+}
+
+#[test]
+fn a_built_table_finds_the_nearest() {
+    let params = Params {
+        degree: 12,
+        beam: 32,
+        extra: 2,
+        ..Params::default()
+    };
+    let (n, seed) = (600, 7);
+    let build = drawn_build(n, params, seed);
+    let rows = build.table().unwrap();
+    assert!(is_lawful(n, params.degree, &rows));
+    assert_eq!(drawn_build(n, params, seed).table().unwrap(), rows, "the same draws give the same table");
+    for i in (0..n).step_by(37) {
+        let mut query = build.bytes[i * DIM..][..DIM].to_vec();
+        query[0] ^= 3;
+        let search = Search {
+            n,
+            dim: DIM,
+            bytes: build.bytes.clone(),
+            degree: params.degree,
+            beam: 64,
+            k: 5,
+            start: build.start,
+            rows: rows.clone(),
+            query: query.clone(),
+            short: [0; 4],
+        };
+        let (found, all) = (search.answers().unwrap(), all_answers(&build.bytes, &query));
+        assert_eq!(found.len(), 5);
+        assert!(found.windows(2).all(|w| (w[0].1, w[0].0) < (w[1].1, w[1].0)), "by distance, then id");
+        assert!(found.iter().all(|answer| all.contains(answer)), "each answer has its own distance");
+        assert_eq!(found[0], all[0], "the nearest");
+    }
+}
+
+#[test]
+fn drawn_slices() {
+    let mut generator = Generator::new(77);
+    let mut order = [PADDING; 12];
+    generator.order(10, &mut order).unwrap();
+    assert_eq!(order[10..], [PADDING; 2]);
+    let mut sorted = order[..10].to_vec();
+    sorted.sort_unstable();
+    assert!(sorted.into_iter().eq(0..10));
+    let mut seeds = [PADDING; 4];
+    generator.seeds(4, 2, 3, &mut seeds).unwrap();
+    assert_eq!(seeds[3], PADDING);
+    seeds[..3].sort_unstable();
+    assert_eq!(seeds[..3], [0, 1, 3]);
+    let mut pivots = [PADDING; 9];
+    generator.pivots(3, &mut pivots).unwrap();
+    assert!(pivots[..3].iter().all(|&id| id < 3) && pivots[3..].iter().all(|&id| id == PADDING));
+    let mut rows = [0; 40];
+    generator.rows(5, 8, &mut rows).unwrap();
+    assert!(is_lawful(5, 8, &rows));
+    let state = generator.state;
+    generator.rows(1, 8, &mut rows[..8]).unwrap();
+    assert_eq!((generator.state, &rows[..8]), (state, &[PADDING; 8][..]), "a single entry draws nothing");
+}
