@@ -1,0 +1,217 @@
+//! The proved library and 000 in one binary, on one thread, over the same tables: first that they agree, then the time of each.
+//!
+//!     bench N QUERIES REPEATS
+//!
+//! Entries are 64 bytes in clusters, drawn by document 01's generator, and so are opening rows, order, seeds and pivots. The parameters are
+//! 000's defaults: degree 64, beam 128, alpha 1.2, one extra seed. A search has beam 128 and asks for 128 answers, as many as 000 gives.
+#[path = "../oracle/ours.rs"]
+#[allow(dead_code)]
+mod ours;
+
+use diskann::probe::{self, Bytes, Counted};
+use ours::{Params, DONE, PAD};
+use std::hint::black_box;
+
+const DIM: usize = 64;
+const PARAMS: Params = Params { degree: 64, beam: 128, alpha: 1.2, extra: 1 };
+const BEAM: usize = 128;
+const K: usize = 128;
+
+/// Document 01, part 10.
+struct Generator(u64);
+
+impl Generator {
+    fn below(&mut self, m: usize) -> usize {
+        self.0 = self.0.wrapping_mul(6_364_136_223_846_793_005).wrapping_add(1_442_695_040_888_963_407);
+        (((self.0 >> 32) * m as u64) >> 32) as usize
+    }
+
+    /// Opening row i: one draw, then ids in a run from there.
+    fn row(&mut self, i: usize, n: usize, degree: usize) -> Vec<u32> {
+        let r = self.below(n - 1);
+        (0..degree.min(n - 1)).map(|j| ((i + 1 + (r + j) % (n - 1)) % n) as u32).collect()
+    }
+
+    fn order(&mut self, n: usize) -> Vec<u32> {
+        let mut order: Vec<u32> = (0..n as u32).collect();
+        for i in (1..n).rev() {
+            order.swap(i, self.below(i + 1));
+        }
+        order
+    }
+
+    /// A group of one seed: the first from r on that is not the start.
+    fn seed(&mut self, n: usize, start: u32) -> u32 {
+        let r = self.below(n) as u32;
+        if r == start {
+            (r + 1) % n as u32
+        } else {
+            r
+        }
+    }
+}
+
+/// Cluster centres; an entry or a query is a centre with each sample moved by -12 to 12.
+struct Clusters(Vec<u8>);
+
+impl Clusters {
+    fn new(g: &mut Generator, count: usize) -> Clusters {
+        Clusters((0..count * DIM).map(|_| 16 + g.below(224) as u8).collect())
+    }
+
+    fn entry(&self, g: &mut Generator) -> Vec<u8> {
+        let c = g.below(self.0.len() / DIM);
+        self.0[c * DIM..(c + 1) * DIM].iter().map(|&x| x - 12 + g.below(25) as u8).collect()
+    }
+}
+
+struct Input {
+    n: usize,
+    vectors: Vec<u8>,
+    queries: Vec<Vec<u8>>,
+    start: u32,
+    order: Vec<u32>,
+    seeds: Vec<u32>,
+    rows: Vec<Vec<u32>>,
+}
+
+fn input(n: usize, queries: usize) -> Input {
+    let mut g = Generator(n as u64);
+    let clusters = Clusters::new(&mut g, (n / 100).max(8));
+    let vectors: Vec<u8> = (0..n).flat_map(|_| clusters.entry(&mut g)).collect();
+    let queries = (0..queries).map(|_| clusters.entry(&mut g)).collect();
+    let pivots: Vec<u32> = (0..8).map(|_| g.below(n) as u32).collect();
+    let start = ours::medoid(n, DIM, &vectors, &pivots).id;
+    assert_eq!(start as usize, probe::medoid(n, DIM, &vectors, &pivots), "the start");
+    let rows = (0..n).map(|i| g.row(i, n, PARAMS.degree)).collect();
+    let order = g.order(n);
+    let seeds = (0..n).map(|_| g.seed(n, start)).collect();
+    Input { n, vectors, queries, start, order, seeds, rows }
+}
+
+fn flat(rows: &[Vec<u32>], width: usize) -> Vec<u32> {
+    rows.iter().flat_map(|row| row.iter().copied().chain(std::iter::repeat(PAD)).take(width)).collect()
+}
+
+#[repr(C)]
+#[derive(Default)]
+struct Timespec {
+    seconds: i64,
+    nanoseconds: i64,
+}
+
+extern "C" {
+    fn clock_gettime(clock: i32, time: *mut Timespec) -> i32;
+}
+
+/// This thread's processor time in seconds: what else the machine does counts least so.
+fn now() -> f64 {
+    const CLOCK_THREAD_CPUTIME_ID: i32 = 3;
+    let mut time = Timespec::default();
+    assert_eq!(unsafe { clock_gettime(CLOCK_THREAD_CPUTIME_ID, &mut time) }, 0);
+    time.seconds as f64 + time.nanoseconds as f64 * 1e-9
+}
+
+/// The best time of so many runs, in seconds.
+fn best(repeats: usize, mut run: impl FnMut()) -> f64 {
+    let once = |_| {
+        let began = now();
+        run();
+        now() - began
+    };
+    (0..repeats).map(once).fold(f64::INFINITY, f64::min)
+}
+
+fn line(what: &str, ours: f64, theirs: f64, unit: &str) {
+    println!("{what:<28} ours {ours:>12.3} {unit}   000 {theirs:>12.3} {unit}   ratio {:.3}", ours / theirs);
+}
+
+fn distances(i: &Input, repeats: usize) {
+    let pairs: Vec<(&[u8], &[u8])> = i.vectors.chunks(DIM).zip(i.vectors.chunks(DIM).skip(1)).take(1_000).collect();
+    let over = |distance: fn(&[u8], &[u8]) -> f32| {
+        best(repeats.max(20), || {
+            for &(a, b) in &pairs {
+                black_box(distance(black_box(a), black_box(b)));
+            }
+        })
+    };
+    let ours = over(|a, b| ours::distance(a, b).distance);
+    let theirs = over(probe::distance);
+    let each = 1e9 / pairs.len() as f64;
+    line("one distance of 64 bytes", ours * each, theirs * each, "ns");
+}
+
+/// The closed table of both, once it is known to be one.
+fn builds(i: &Input, repeats: usize) -> Vec<u32> {
+    let (n, width) = (i.n, ours::slack(PARAMS.degree));
+    let call = ours::Build { n, dim: DIM, vectors: &i.vectors, params: PARAMS, start: i.start, order: &i.order, seeds: &i.seeds };
+    let theirs = || probe::Build {
+        n,
+        dim: DIM,
+        vectors: &i.vectors,
+        params: probe::Params { degree: PARAMS.degree, beam: PARAMS.beam, alpha: PARAMS.alpha, extra: PARAMS.extra },
+        start: i.start,
+        order: &i.order,
+        seeds: &i.seeds,
+        rows: i.rows.clone(),
+    };
+    let opening = flat(&i.rows, PARAMS.degree);
+    let (mut wide, mut closed) = (vec![0; n * width], vec![0; n * PARAMS.degree]);
+    let (mut words, mut floats) = (vec![0; 6 * n + 32_768], vec![0.0; 4 * n + 1_024]);
+    let ours = best(repeats, || assert_eq!(ours::build(call, &opening, &mut wide, &mut closed, &mut words, &mut floats), DONE));
+    let mut built = (vec![], vec![]);
+    let fed = (0..repeats).map(|_| theirs()).collect::<Vec<_>>();
+    let mut fed = fed.into_iter();
+    let time = best(repeats, || built = probe::build(fed.next().unwrap(), Bytes));
+    assert!(wide == flat(&built.0, width) && closed == flat(&built.1, PARAMS.degree), "the tables");
+    line("build", ours, time, "s ");
+    if n <= 10_000 {
+        probe::build(theirs(), Counted);
+        println!("{:<28} 000 {}", "  distances of a build", probe::distances());
+    }
+    closed
+}
+
+fn searches(i: &Input, table: &[u32], repeats: usize) {
+    let (n, degree, start, vectors) = (i.n, PARAMS.degree, i.start, &i.vectors[..]);
+    let (mut words, mut floats) = (vec![0; 2 * n + 256], vec![0.0; n + 256]);
+    let (mut ids, mut dists) = (vec![0; K], vec![0.0; K]);
+    let mut search = |query: &[u8], words: &mut [u32], floats: &mut [f32]| {
+        let call = ours::Search { n, dim: DIM, vectors, degree, beam: BEAM, k: K, start, table, query };
+        let answer = ours::search(call, words, floats, &mut ids, &mut dists);
+        (answer, ids[..answer.count].iter().copied().zip(dists[..answer.count].iter().copied()).collect::<Vec<_>>())
+    };
+    let theirs = |query| probe::Search { dim: DIM, vectors, degree, table, query, start, beam: BEAM };
+    for query in &i.queries {
+        let (answer, pairs) = search(query, &mut words, &mut floats);
+        assert!(answer.number == 0 && pairs == probe::search(theirs(query)), "the answers");
+        probe::found(theirs(query), Counted);
+    }
+    let asked = i.queries.len() as f64;
+    println!("{:<28} 000 {:.1}", "  distances of a search", probe::distances() as f64 / asked);
+    // refused by 11, so after the whole of the checks before it, the pass over the table for 8 among them
+    let long = vec![0; DIM + 1];
+    assert_eq!(search(&long, &mut words, &mut floats).0.number, 11);
+    let mut call = |query: &[u8]| {
+        let call = ours::Search { n, dim: DIM, vectors, degree, beam: BEAM, k: K, start, table, query };
+        black_box(ours::search(call, &mut words, &mut floats, &mut ids, &mut dists));
+    };
+    let whole = best(repeats, || i.queries.iter().for_each(|q| call(q)));
+    let checks = best(repeats, || i.queries.iter().for_each(|_| call(&long)));
+    let time = best(repeats, || i.queries.iter().for_each(|q| drop(black_box(probe::found(theirs(q), Bytes)))));
+    let each = 1e6 / asked;
+    line("search, whole call", whole * each, time * each, "us");
+    line("search on accepted input", (whole - checks) * each, time * each, "us");
+    let bytes = std::mem::size_of_val(table) as f64;
+    println!("{:<28} ours {:>12.3} us   {:.1} bytes a ns", "  the checks alone", checks * each, bytes * asked / checks / 1e9);
+}
+
+fn main() {
+    let args: Vec<usize> = std::env::args().skip(1).map(|a| a.parse().expect("bench N QUERIES REPEATS")).collect();
+    let [n, queries, repeats] = args[..] else { panic!("bench N QUERIES REPEATS") };
+    println!("n {n}, dim {DIM}, degree 64, build beam 128, alpha 1.2, extra seeds 1; search beam {BEAM}, k {K}; {queries} queries, best of {repeats}");
+    let i = input(n, queries);
+    distances(&i, repeats);
+    let table = builds(&i, repeats.min(if n > 2_000 { 2 } else { 5 }));
+    searches(&i, &table, repeats);
+}

@@ -1,0 +1,177 @@
+//! Accepted calls, each beside 000 on the same input: the answer, every lent word, and nothing else altered.
+use crate::cases::*;
+use crate::lent::{pattern, reads, with, Lent};
+use crate::must;
+use crate::ours::{self, slack, Answer, Params, DONE};
+use crate::tally::{note, note_if};
+use diskann::probe;
+
+fn params(p: Params) -> probe::Params {
+    probe::Params { degree: p.degree, beam: p.beam, alpha: p.alpha, extra: p.extra }
+}
+
+/// Words beyond the stated room are lent too, and must stay as they are.
+const MORE: usize = 3;
+
+/// The room of a batch, close or whole build.
+struct Room {
+    words: Lent<u32>,
+    floats: Lent<f32>,
+}
+
+fn room(r: &mut Rng, n: usize) -> Room {
+    Room { words: pattern(r, 6 * n + 32_768 + MORE), floats: pattern(r, 4 * n + 1_024 + MORE) }
+}
+
+impl Room {
+    fn cleared(&self, n: usize) -> bool {
+        self.words.cleared(6 * n + 32_768) && self.floats.cleared(4 * n + 1_024)
+    }
+}
+
+pub fn distance(r: &mut Rng, _: usize) {
+    let len = r.pick(&[1, 2, 7, 8, 9, 16, 63, 64, 65, 255, 256]);
+    let extremes = r.below(2) == 0;
+    let mut bytes = || -> Vec<u8> { (0..len).map(|_| if extremes { r.pick(&[0, 255]) } else { r.next() as u8 }).collect() };
+    let (a, b) = (bytes(), bytes());
+    note(format!("length {len}"));
+    let got = reads(&[&a, &b], &[], || ours::distance(&a, &b));
+    must(got == Answer { distance: probe::distance(&a, &b), ..DONE }, "distance");
+    must(got.distance.is_sign_positive(), "distance: sign");
+}
+
+pub fn medoid(r: &mut Rng, n: usize) {
+    let d = data(r, n);
+    let pivots: Vec<u32> = (0..1 + r.below(8)).map(|_| r.below(n) as u32).collect();
+    note_limits(&d);
+    note(format!("{} pivots", pivots.len()));
+    let want = probe::medoid(n, d.dim, &d.vectors, &pivots) as u32;
+    let got = reads(&[&d.vectors], &[&pivots], || ours::medoid(n, d.dim, &d.vectors, &pivots));
+    must(got == Answer { id: want, ..DONE }, "medoid");
+}
+
+fn search_on(r: &mut Rng, d: &Data, table: &[u32]) {
+    let (n, dim, degree, start) = (d.n, d.dim, d.params.degree, d.start);
+    let beam = match r.below(5) {
+        0 => 0,
+        1 => 256,
+        _ => 1 + r.below(40),
+    };
+    let query = query(r, d);
+    let want = probe::search(probe::Search { dim, vectors: &d.vectors, degree, table, query: &query, start, beam });
+    // k = beam is 000's own answer; another k cuts that list, lower ids first
+    let k = match r.below(4) {
+        0 => r.below(beam + 3),
+        1 => 100_000,
+        _ => beam.max(1),
+    };
+    note_if(beam == 0, "search beam 0");
+    note_if(beam == 256, "search beam 256");
+    note_if(k == 0, "k 0");
+    note_if(k >= beam.max(1), "k as the beam or above");
+    note_if(want.len() == beam, "as many answers as the beam");
+    note_if(want.windows(2).any(|w| w[0].1 == w[1].1), "equal distances among answers");
+    let most = k.min(beam.max(1));
+    let (mut words, mut floats) = (pattern(r, 2 * n + 256 + MORE), pattern(r, n + 256 + MORE));
+    let (mut ids, mut dists) = (pattern(r, most + MORE), pattern(r, most + MORE));
+    let call = ours::Search { n, dim, vectors: &d.vectors, degree, beam, k, start, table, query: &query };
+    let lent = || ours::search(call, words.lend(), floats.lend(), ids.lend(), dists.lend());
+    let got = reads(&[&d.vectors, &query], &[table], lent);
+    let (want_ids, want_dists): (Vec<u32>, Vec<f32>) = want.into_iter().take(k).unzip();
+    must(got == Answer { count: want_ids.len(), ..DONE }, "search: answer");
+    must(ids.begins(&want_ids) && dists.begins(&want_dists), "search: answers, and nothing beyond them");
+    must(words.cleared(2 * n + 256) && floats.cleared(n + 256), "search: room");
+}
+
+/// A search of any words that the search rule admits.
+pub fn search(r: &mut Rng, n: usize) {
+    let d = data(r, n);
+    let table = searched(r, n, d.params.degree);
+    note_limits(&d);
+    search_on(r, &d, &table);
+}
+
+pub fn batch(r: &mut Rng, n: usize) {
+    let d = data(r, n);
+    let s = slack(d.params.degree);
+    let rows = rows(r, n, s.min(n - 1));
+    let count = match r.below(4) {
+        0 => n.min(256),
+        1 if n < 200 => 0,
+        _ => r.below(n.min(256) + 1),
+    };
+    let nodes = r.distinct(count, n, &[]);
+    let seeds = seeds(r, &d, nodes.len());
+    note_build_limits(&d);
+    note_if(count == 0, "batch of no nodes");
+    note_if(count == 256, "batch of 256");
+    let mut wide = with(r, &flat(&rows, s), n * s);
+    let b =
+        probe::Build { n, dim: d.dim, vectors: &d.vectors, params: params(d.params), start: d.start, order: &nodes, seeds: &seeds, rows };
+    let (want, _) = probe::build(b, probe::Bytes);
+    probe::forget_close();
+    let mut room = room(r, n);
+    let call = ours::Build { n, dim: d.dim, vectors: &d.vectors, params: d.params, start: d.start, order: &nodes, seeds: &seeds };
+    let got = reads(&[&d.vectors], &[&nodes, &seeds], || ours::batch(call, wide.lend(), room.words.lend(), room.floats.lend()));
+    must(got == DONE, "batch: answer");
+    must(wide.begins(&flat(&want, s)), "batch: wide table");
+    must(room.cleared(n), "batch: room");
+}
+
+pub fn open(r: &mut Rng, n: usize) {
+    let degree = r.pick(&[1, 2, 3, 10, 33, 63, 64]);
+    let s = slack(degree);
+    let opening = rows(r, n, degree.min(n - 1));
+    note_if(n == 1, "n 1");
+    note(format!("degree {degree}"));
+    // 000 copies its opening rows as they are, so its wide table is these rows
+    let mut wide = pattern(r, n * s);
+    let closed = flat(&opening, degree);
+    let got = reads(&[], &[&closed], || ours::open(n, degree, &closed, wide.lend()));
+    must(got == DONE, "open: answer");
+    must(wide.begins(&flat(&opening, s)), "open: wide table");
+}
+
+pub fn close(r: &mut Rng, n: usize) {
+    let d = data(r, n);
+    let (degree, s) = (d.params.degree, slack(d.params.degree));
+    let rows = rows(r, n, s.min(n - 1));
+    note_limits(&d);
+    note_alpha(d.params.alpha);
+    let wide = flat(&rows, s);
+    let b = probe::Build { n, dim: d.dim, vectors: &d.vectors, params: params(d.params), start: d.start, order: &[], seeds: &[], rows };
+    let (_, want) = probe::build(b, probe::Bytes);
+    let mut closed = pattern(r, n * degree);
+    let mut room = room(r, n);
+    // close ignores the record's beam and extra seeds
+    let odd = Params { beam: r.next() as usize, extra: r.next() as usize, ..d.params };
+    let call = ours::Close { n, dim: d.dim, vectors: &d.vectors, params: odd, wide: &wide };
+    let got = reads(&[&d.vectors], &[&wide], || ours::close(call, closed.lend(), room.words.lend(), room.floats.lend()));
+    must(got == DONE, "close: answer");
+    must(closed.begins(&flat(&want, degree)), "close: closed table");
+    must(room.cleared(n), "close: room");
+}
+
+/// A whole build, and a search of what it built.
+pub fn build(r: &mut Rng, n: usize) {
+    let d = data(r, n);
+    let (degree, s) = (d.params.degree, slack(d.params.degree));
+    let rows = rows(r, n, degree.min(n - 1));
+    let opening = flat(&rows, degree);
+    let order = r.shuffled(n);
+    let seeds = seeds(r, &d, n);
+    note_build_limits(&d);
+    let b =
+        probe::Build { n, dim: d.dim, vectors: &d.vectors, params: params(d.params), start: d.start, order: &order, seeds: &seeds, rows };
+    let (want_wide, want_closed) = probe::build(b, probe::Bytes);
+    let (mut wide, mut closed) = (pattern(r, n * s), pattern(r, n * degree));
+    let mut room = room(r, n);
+    let call = ours::Build { n, dim: d.dim, vectors: &d.vectors, params: d.params, start: d.start, order: &order, seeds: &seeds };
+    let lent = || ours::build(call, &opening, wide.lend(), closed.lend(), room.words.lend(), room.floats.lend());
+    let got = reads(&[&d.vectors], &[&order, &seeds, &opening], lent);
+    must(got == DONE, "build: answer");
+    must(wide.begins(&flat(&want_wide, s)), "build: wide table");
+    must(closed.begins(&flat(&want_closed, degree)), "build: closed table");
+    must(room.cleared(n), "build: room");
+    search_on(r, &d, closed.lend());
+}

@@ -1,0 +1,223 @@
+//! Random inputs around document 01's boundaries: many equal vectors and distances, rows of every length, limits touched.
+use crate::ours::{Params, PAD};
+use crate::tally::{note, note_if};
+
+pub struct Rng(pub u64);
+
+impl Rng {
+    pub fn next(&mut self) -> u64 {
+        self.0 = self.0.wrapping_add(0x9E37_79B9_7F4A_7C15);
+        let mut z = self.0;
+        z = (z ^ (z >> 30)).wrapping_mul(0xBF58_476D_1CE4_E5B9);
+        z = (z ^ (z >> 27)).wrapping_mul(0x94D0_49BB_1331_11EB);
+        z ^ (z >> 31)
+    }
+
+    pub fn below(&mut self, m: usize) -> usize {
+        (self.next() % m.max(1) as u64) as usize
+    }
+
+    pub fn pick<T: Copy>(&mut self, from: &[T]) -> T {
+        from[self.below(from.len())]
+    }
+
+    /// k distinct numbers below n, none of `not`.
+    pub fn distinct(&mut self, k: usize, n: usize, not: &[u32]) -> Vec<u32> {
+        let mut out: Vec<u32> = Vec::new();
+        let room = n - not.iter().filter(|&&x| (x as usize) < n).count();
+        while out.len() < k.min(room) {
+            let x = self.below(n) as u32;
+            if !not.contains(&x) && !out.contains(&x) {
+                out.push(x);
+            }
+        }
+        out
+    }
+
+    pub fn shuffled(&mut self, n: usize) -> Vec<u32> {
+        let mut v: Vec<u32> = (0..n as u32).collect();
+        for i in (1..n).rev() {
+            v.swap(i, self.below(i + 1));
+        }
+        v
+    }
+}
+
+/// Not a number, 0.5, 1.0, 1.2, 1.25, 2.0, 4.0, minus infinity, -0.0, 3.7.
+const ALPHAS: [u32; 10] =
+    [0x7FC0_0000, 0x3F00_0000, 0x3F80_0000, 0x3F99_999A, 0x3FA0_0000, 0x4000_0000, 0x4080_0000, 0xFF80_0000, 0x8000_0000, 0x406C_CCCD];
+
+pub struct Data {
+    pub n: usize,
+    pub dim: usize,
+    pub vectors: Vec<u8>,
+    pub params: Params,
+    pub start: u32,
+}
+
+/// How many entries: 1 to 40, or 250 to 1,500 with many about 750, where pools are cut.
+pub fn size(r: &mut Rng, large: bool) -> usize {
+    match (large, r.below(4)) {
+        (false, _) => 1 + r.below(40),
+        (true, 0 | 1) => 749 + r.below(7),
+        (true, 2) => 900 + r.below(601),
+        (true, _) => 250 + r.below(1_251),
+    }
+}
+
+fn alpha(r: &mut Rng) -> f32 {
+    if r.below(4) > 0 {
+        return f32::from_bits(r.pick(&ALPHAS));
+    }
+    let any = f32::from_bits(r.next() as u32);
+    if any > 4.0 {
+        1.2
+    } else {
+        any
+    }
+}
+
+/// Samples from few values in half of the cases, so that distances are equal; some vectors are copies of others.
+fn scattered(r: &mut Rng, n: usize) -> (usize, Vec<u8>) {
+    let dim = match r.below(6) {
+        0 => 1,
+        1 => 2,
+        2 => 1 + r.below(8),
+        3 => 64,
+        4 => 1 + r.below(40),
+        _ => r.pick(&[16, 33, 128, 255, 256]),
+    };
+    let values: Vec<u8> = match r.below(4) {
+        0 => vec![0, 255],
+        1 => vec![100, 101, 102, 103, 110],
+        _ => (0..=255).collect(),
+    };
+    let mut vectors: Vec<u8> = (0..n * dim).map(|_| r.pick(&values)).collect();
+    for _ in 0..r.below(n) / 2 {
+        let (a, b) = (r.below(n), r.below(n));
+        vectors.copy_within(a * dim..(a + 1) * dim, b * dim);
+    }
+    (dim, vectors)
+}
+
+/// Nearly all entries in one heap, and a few far off, each in a direction of its own and often equally far. A pool's last entries are then
+/// those that pruning keeps, so one place more or less at the cut shows in the row.
+fn heap_and_far(r: &mut Rng, n: usize) -> (usize, Vec<u8>) {
+    let dim = r.pick(&[3, 8, 64, 64]);
+    let mut vectors = vec![0; n * dim];
+    for i in 0..n {
+        vectors[i * dim] = r.below(40) as u8;
+        vectors[i * dim + 1] = r.below(40) as u8;
+    }
+    for _ in 0..1 + r.below(6) {
+        let far = r.below(n) * dim;
+        vectors[far + 2 + r.below(dim - 2)] = 255;
+        if r.below(2) == 0 {
+            vectors[far..far + 2].fill(20);
+        }
+    }
+    (dim, vectors)
+}
+
+pub fn data(r: &mut Rng, n: usize) -> Data {
+    let far = n > 200 && r.below(5) > 0;
+    let (dim, vectors) = if far { heap_and_far(r, n) } else { scattered(r, n) };
+    let degree = match r.below(4) {
+        _ if far => r.pick(&[24, 64, 64, 64]),
+        0 => 1 + r.below(4),
+        1 => 64,
+        _ => 1 + r.below(16),
+    };
+    let beam = match r.below(6) {
+        _ if far && r.below(4) > 0 => 256,
+        0 => 0,
+        1 => 1,
+        2 => 256,
+        _ => 1 + r.below(24),
+    };
+    // seventeen searches for each node of a large case would take most of the run, so few large cases have them
+    let extra = match r.below(8) {
+        0 => 16,
+        _ if n > 200 => r.below(3),
+        _ => r.below(17),
+    };
+    let alpha = if far && r.below(2) == 0 { 1.2 } else { alpha(r) };
+    let params = Params { degree, beam, alpha, extra: extra.min(n - 1) };
+    let start = r.below(n) as u32;
+    Data { n, dim, vectors, params, start }
+}
+
+/// What a case touches of document 01's limits.
+pub fn note_limits(d: &Data) {
+    let p = d.params;
+    note_if(d.n == 1, "n 1");
+    note_if(d.n > 751, "n above 751");
+    note_if(d.dim == 1, "dim 1");
+    note_if(d.dim == 256, "dim 256");
+    note_if(p.degree == 1, "degree 1");
+    note_if(p.degree == 64, "degree 64");
+}
+
+/// And of those of a build.
+pub fn note_build_limits(d: &Data) {
+    let p = d.params;
+    note_limits(d);
+    note_if(p.beam == 0, "beam 0");
+    note_if(p.beam == 256, "beam 256");
+    note_if(p.extra == 0, "extra seeds 0");
+    note_if(p.extra == 16, "extra seeds 16");
+    note_alpha(p.alpha);
+}
+
+pub fn note_alpha(alpha: f32) {
+    note(match alpha {
+        a if a.is_nan() => "alpha not a number",
+        a if a < 1.0 => "alpha below 1",
+        1.0 => "alpha 1.0",
+        1.2 => "alpha 1.2",
+        4.0 => "alpha 4.0",
+        _ => "alpha another",
+    });
+}
+
+/// Rows of the build rule, of lengths 0 up to `most`.
+pub fn rows(r: &mut Rng, n: usize, most: usize) -> Vec<Vec<u32>> {
+    let row = |i| {
+        let k = match r.below(3) {
+            0 => most,
+            1 => 0,
+            _ => r.below(most + 1),
+        };
+        r.distinct(k, n, &[i as u32])
+    };
+    (0..n).map(row).collect()
+}
+
+pub fn flat(rows: &[Vec<u32>], width: usize) -> Vec<u32> {
+    let padded = |row: &Vec<u32>| {
+        let mut words = row.clone();
+        words.resize(width, PAD);
+        words
+    };
+    rows.iter().flat_map(padded).collect()
+}
+
+/// Any words that the search rule admits: padding anywhere, repeats, own ids.
+pub fn searched(r: &mut Rng, n: usize, degree: usize) -> Vec<u32> {
+    let word = |_| if r.below(4) == 0 { PAD } else { r.below(n) as u32 };
+    (0..n * degree).map(word).collect()
+}
+
+/// Groups of seeds for so many nodes.
+pub fn seeds(r: &mut Rng, d: &Data, count: usize) -> Vec<u32> {
+    (0..count).flat_map(|_| r.distinct(d.params.extra, d.n, &[d.start])).collect()
+}
+
+pub fn query(r: &mut Rng, d: &Data) -> Vec<u8> {
+    if r.below(3) == 0 {
+        let i = r.below(d.n);
+        d.vectors[i * d.dim..(i + 1) * d.dim].to_vec()
+    } else {
+        (0..d.dim).map(|_| r.next() as u8).collect()
+    }
+}

@@ -1,0 +1,82 @@
+//! What is lent to a call: filled with a pattern beforehand, with guard words behind it that are not lent, and compared afterwards.
+use crate::cases::Rng;
+use crate::must;
+use crate::ours::Answer;
+use std::hint::black_box;
+
+const GUARD: usize = 5;
+
+/// A word of u32 or f32, compared by its bits.
+pub trait Word: Copy {
+    fn of(bits: u32) -> Self;
+    fn bits(self) -> u32;
+}
+
+impl Word for u32 {
+    fn of(bits: u32) -> u32 {
+        bits
+    }
+    fn bits(self) -> u32 {
+        self
+    }
+}
+
+impl Word for f32 {
+    fn of(bits: u32) -> f32 {
+        f32::from_bits(bits)
+    }
+    fn bits(self) -> u32 {
+        self.to_bits()
+    }
+}
+
+fn same<T: Word>(a: &[T], b: &[T]) -> bool {
+    a.len() == b.len() && a.iter().zip(b).all(|(x, y)| x.bits() == y.bits())
+}
+
+pub struct Lent<T> {
+    now: Vec<T>,
+    was: Vec<T>,
+}
+
+/// `len` words of no meaning.
+pub fn pattern<T: Word>(r: &mut Rng, len: usize) -> Lent<T> {
+    with(r, &[], len)
+}
+
+/// `len` words that begin with these.
+pub fn with<T: Word>(r: &mut Rng, first: &[T], len: usize) -> Lent<T> {
+    let mut now = first.to_vec();
+    now.extend((first.len()..len + GUARD).map(|_| T::of(r.next() as u32)));
+    Lent { was: now.clone(), now }
+}
+
+impl<T: Word> Lent<T> {
+    pub fn lend(&mut self) -> &mut [T] {
+        let len = self.now.len() - GUARD;
+        &mut self.now[..len]
+    }
+
+    /// No word differs.
+    pub fn kept(&self) -> bool {
+        same(&self.now, &self.was)
+    }
+
+    /// It begins with these words, and no other differs.
+    pub fn begins(&self, words: &[T]) -> bool {
+        same(&self.now[..words.len()], words) && same(&self.now[words.len()..], &self.was[words.len()..])
+    }
+
+    /// The first `room` words are zero, and no other differs.
+    pub fn cleared(&self, room: usize) -> bool {
+        self.begins(&vec![T::of(0); room])
+    }
+}
+
+/// A call that only reads these, which are compared too. The compiler may take a shared slice for unaltered, so it is not told that these are.
+pub fn reads(bytes: &[&[u8]], words: &[&[u32]], call: impl FnOnce() -> Answer) -> Answer {
+    let before = (bytes.concat(), words.concat());
+    let answer = call();
+    must(before == (black_box(bytes).concat(), black_box(words).concat()), "what is only read");
+    answer
+}

@@ -1,0 +1,191 @@
+//! 000 as a function of its draws. This module stands below 000's own (substitute.py puts it there), so it calls 000's private functions.
+use super::*;
+use std::cell::{Cell, RefCell};
+use std::collections::{BTreeSet, HashMap};
+
+/// Document 01's metric: the sum of squared byte differences, as f32.
+#[derive(Clone, Copy)]
+pub struct Bytes;
+
+impl Distance<u8> for Bytes {
+    #[inline]
+    fn eval(&self, a: &[u8], b: &[u8]) -> f32 {
+        let square = |(&x, &y): (&u8, &u8)| {
+            let d = x as i32 - y as i32;
+            (d * d) as u32
+        };
+        a.iter().zip(b).map(square).sum::<u32>() as f32
+    }
+}
+
+thread_local! { static DISTANCES: Cell<u64> = const { Cell::new(0) }; }
+
+/// The same metric, and how often it was asked. Never timed.
+#[derive(Clone, Copy)]
+pub struct Counted;
+
+impl Distance<u8> for Counted {
+    fn eval(&self, a: &[u8], b: &[u8]) -> f32 {
+        DISTANCES.set(DISTANCES.get() + 1);
+        Bytes.eval(a, b)
+    }
+}
+
+/// How many distances `Counted` worked out since it was last asked.
+pub fn distances() -> u64 {
+    DISTANCES.take()
+}
+
+/// What is fed in place of `thread_rng`.
+#[derive(Default)]
+struct Fed {
+    rows: Vec<Vec<u32>>,
+    order: Vec<usize>,
+    seeds: HashMap<usize, Vec<usize>>,
+    pivots: Vec<usize>,
+    wide: Vec<Vec<u32>>,
+}
+
+thread_local! { static FED: RefCell<Fed> = RefCell::new(Fed::default()); }
+
+pub fn fed_pivots() -> Vec<usize> {
+    FED.with(|f| f.borrow().pivots.clone())
+}
+
+pub fn fed_row(i: usize) -> Vec<u32> {
+    FED.with(|f| f.borrow().rows[i].clone())
+}
+
+pub fn fed_order() -> Vec<usize> {
+    FED.with(|f| f.borrow().order.clone())
+}
+
+pub fn fed_seed(node: usize, place: usize) -> usize {
+    FED.with(|f| f.borrow().seeds[&node][place])
+}
+
+pub fn show_wide(graph: &[Vec<u32>]) {
+    FED.with(|f| f.borrow_mut().wide = graph.to_vec());
+    SEEN_OPEN.set(SEEN.with(|s| s.borrow().clone()));
+}
+
+pub const MERGE_PRUNED: &str = "row pruned in the merge";
+pub const CLOSE_PRUNED: &str = "row pruned by close";
+
+type Seen = RefCell<BTreeSet<&'static str>>;
+thread_local! {
+    static SEEN: Seen = const { RefCell::new(BTreeSet::new()) };
+    static SEEN_OPEN: Seen = const { RefCell::new(BTreeSet::new()) };
+}
+
+/// 000 closes every table. Where only the wide one is compared, what closing reached does not count.
+pub fn forget_close() {
+    SEEN.set(SEEN_OPEN.take());
+}
+
+/// Watching costs time, so the programs that measure are compiled with `--cfg unwatched`.
+#[inline]
+pub fn see(what: &'static str) {
+    if cfg!(not(unwatched)) {
+        SEEN.with(|s| s.borrow_mut().insert(what));
+    }
+}
+
+/// A pool that is about to be cut, by rising distance.
+#[inline]
+pub fn see_pool(sorted: &[(u32, f32)]) {
+    if cfg!(unwatched) {
+        return;
+    }
+    match sorted.len() {
+        750 => see("pool of 750"),
+        751 => see("pool of 751"),
+        752.. => see("pool beyond 751"),
+        _ => {}
+    }
+    if sorted.len() > 750 && sorted[749].1 == sorted[750].1 {
+        see("equal distances at the cut");
+    }
+    if sorted.windows(2).any(|w| w[0].1 == w[1].1) {
+        see("equal distances in a pool");
+    }
+}
+
+/// What was seen since it was last asked.
+pub fn seen() -> BTreeSet<&'static str> {
+    SEEN.take()
+}
+
+pub struct Params {
+    pub degree: usize,
+    pub beam: usize,
+    pub alpha: f32,
+    pub extra: usize,
+}
+
+/// A build's arguments. `order` need not name every entry: up to 256 nodes are one batch.
+pub struct Build<'a> {
+    pub n: usize,
+    pub dim: usize,
+    pub vectors: &'a [u8],
+    pub params: Params,
+    pub start: u32,
+    pub order: &'a [u32],
+    pub seeds: &'a [u32],
+    pub rows: Vec<Vec<u32>>,
+}
+
+fn flat(n: usize, dim: usize, vectors: &[u8]) -> FlatVectors<u8> {
+    FlatVectors { data: vectors.to_vec(), dim, n }
+}
+
+fn wholes(ids: &[u32]) -> Vec<usize> {
+    ids.iter().map(|&id| id as usize).collect()
+}
+
+/// 000's build from supplied rows: the rows before they are closed, and after.
+pub fn build<D: Distance<u8> + Copy + Sync>(b: Build, metric: D) -> (Vec<Vec<u32>>, Vec<Vec<u32>>) {
+    let p = b.params;
+    let group = |(i, &u): (usize, &u32)| (u as usize, wholes(&b.seeds[i * p.extra..(i + 1) * p.extra]));
+    let seeds = b.order.iter().enumerate().map(group).collect();
+    FED.set(Fed { rows: b.rows, order: wholes(b.order), seeds, ..Fed::default() });
+    let closed = build_vamana_graph(&flat(b.n, b.dim, b.vectors), p.degree, p.beam, p.alpha, p.extra, metric, b.start);
+    (FED.take().wide, closed)
+}
+
+pub fn medoid(n: usize, dim: usize, vectors: &[u8], pivots: &[u32]) -> usize {
+    FED.set(Fed { pivots: wholes(pivots), ..Fed::default() });
+    calculate_medoid(&flat(n, dim, vectors), Bytes)
+}
+
+/// A search's arguments.
+#[derive(Clone, Copy)]
+pub struct Search<'a> {
+    pub dim: usize,
+    pub vectors: &'a [u8],
+    pub degree: usize,
+    pub table: &'a [u32],
+    pub query: &'a [u8],
+    pub start: u32,
+    pub beam: usize,
+}
+
+/// 000's search over plain rows, with padding left out as `search_with_dists` does: as many answers as the beam holds.
+pub fn found<D: Distance<u8>>(s: Search, metric: D) -> Vec<(u32, f32)> {
+    let vector = |id: u32| &s.vectors[id as usize * s.dim..(id as usize + 1) * s.dim];
+    let row = |id: u32| &s.table[id as usize * s.degree..(id as usize + 1) * s.degree];
+    let distance = |id| metric.eval(s.query, vector(id));
+    let neighbours = |id| row(id).iter().copied().filter(|&word| word != PAD_U32).collect();
+    graph_search(s.start, s.beam, distance, neighbours).into_iter().map(|c| (c.id, c.dist)).collect()
+}
+
+/// The same answers, equal distances by id: 000 leaves them as a heap's layout has them.
+pub fn search(s: Search) -> Vec<(u32, f32)> {
+    let mut pairs = found(s, Bytes);
+    pairs.sort_by(|a, b| a.1.total_cmp(&b.1).then(a.0.cmp(&b.0)));
+    pairs
+}
+
+pub fn distance(a: &[u8], b: &[u8]) -> f32 {
+    Bytes.eval(a, b)
+}
