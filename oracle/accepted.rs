@@ -41,9 +41,15 @@ pub fn distance(r: &mut Rng, _: usize) {
 }
 
 pub fn medoid(r: &mut Rng, n: usize) {
-    let d = data(r, n);
+    let mut d = data(r, n);
+    if r.below(4) == 0 {
+        (d.dim, d.vectors) = near_scores(r, n);
+        note("scores a rounding apart");
+    }
     let pivots: Vec<u32> = (0..1 + r.below(8)).map(|_| r.below(n) as u32).collect();
-    note_limits(&d);
+    note_if(n == 1, "n 1");
+    note_if(d.dim == 1, "dim 1");
+    note_if(d.dim == 256, "dim 256");
     note(format!("{} pivots", pivots.len()));
     let want = probe::medoid(n, d.dim, &d.vectors, &pivots) as u32;
     let got = reads(&[&d.vectors], &[&pivots], || ours::medoid(n, d.dim, &d.vectors, &pivots));

@@ -119,6 +119,21 @@ fn heap_and_far(r: &mut Rng, n: usize) -> (usize, Vec<u8>) {
     (dim, vectors)
 }
 
+/// Two heaps as far apart as bytes allow, two samples of each entry one off. Sums of such distances pass 2^24 and differ by less than a
+/// rounding, so that the order in which they are added decides which is least.
+pub fn near_scores(r: &mut Rng, n: usize) -> (usize, Vec<u8>) {
+    let dim = 256;
+    let mut vectors = Vec::with_capacity(n * dim);
+    for i in 0..n {
+        let high = r.below(2) == 0;
+        vectors.resize((i + 1) * dim, if high { 255 } else { 0 });
+        for _ in 0..2 {
+            vectors[i * dim + r.below(dim)] = if high { 254 } else { 1 };
+        }
+    }
+    (dim, vectors)
+}
+
 pub fn data(r: &mut Rng, n: usize) -> Data {
     let far = n > 200 && r.below(5) > 0;
     let (dim, vectors) = if far { heap_and_far(r, n) } else { scattered(r, n) };
