@@ -19,7 +19,7 @@ use Rattle.laws.specs.Words.{padding}
 use Rattle.pooling.specs.Regions.{Below}
 use Rattle.fresh.specs.Made.{Given, Between, Fit, RowsMade, freshAt as freshOne, FreshRows as AllFresh}
 use Rattle.fresh.specs.Once.{fresh-once, between-start}
-use Rattle.gather.specs.Grown.{mem-at}
+use Rattle.laws.specs.Members.{mem-at}
 use Rattle.incoming.specs.Says.{entry}
 use Rattle.settle.proofs.Words.{row-id, row-pad}
 use Rattle.merge.specs.Layout.{freshAt}

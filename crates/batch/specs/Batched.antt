@@ -17,11 +17,10 @@ use Rattle.definition.specs.Slack.{slack}
 use Rattle.definition.specs.Refusals.{BatchCall, batchNumber, goodGroup, badAlpha}
 use Rattle.definition.specs.Outcome.{refused, done, BatchOut, batchKept, batchDone, batchOut, BatchMeets}
 use Rattle.laws.specs.Truth.{and-both}
-use Rattle.laws.specs.Members.{each-mem}
+use Rattle.laws.specs.Members.{each-mem, mem-at}
 use Rattle.checks.specs.Below.{below-at}
 use Rattle.numbers.specs.BuildNumbers.{batch-accepted}
 use Rattle.pooling.specs.Regions.{Below}
-use Rattle.gather.specs.Grown.{mem-at}
 use Rattle.room.specs.Clear.{RoomClear}
 use Rattle.room.specs.Outcomes.{by-refusal, by-success}
 use Rattle.batch.specs.Says.{BatchReady, BatchRun}

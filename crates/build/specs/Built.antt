@@ -19,7 +19,7 @@ use Rattle.laws.specs.Parts.{within-trans}
 use Rattle.checks.specs.Below.{below-at}
 use Rattle.numbers.specs.BuildNumbers.{build-accepted}
 use Rattle.pooling.specs.Regions.{Below}
-use Rattle.gather.specs.Grown.{mem-at}
+use Rattle.laws.specs.Members.{mem-at}
 use Rattle.promises.specs.Kept.{TableKept}
 use Rattle.promises.specs.Rule.{rule-kept, kept-rule, kept-entry}
 use Rattle.promises.specs.build.Batches.{opened-kept}

@@ -18,13 +18,12 @@ use Rattle.definition.specs.Slack.{slack}
 use Rattle.definition.specs.Batch.{Setting, batch}
 use Rattle.definition.specs.Build.{batchSize, batches}
 use Rattle.definition.specs.Outcome.{settingOf}
-use Rattle.laws.specs.Members.{take-mem, drop-mem}
+use Rattle.laws.specs.Members.{take-mem, drop-mem, mem-at}
 use Rattle.laws.specs.Parts.{Within, within-trans, within-none}
 use Rattle.laws.specs.Words.{Row}
 use Rattle.promises.specs.Kept.{TableKept}
 use Rattle.promises.specs.Rule.{kept-entry}
 use Rattle.promises.specs.build.Batches.{batch-kept}
-use Rattle.gather.specs.Grown.{mem-at}
 use Rattle.batch.specs.Says.{BatchReady, BatchRun}
 
 -- all ids are entries

@@ -1,7 +1,7 @@
 -- Entry by entry: no id stands twice in a fresh row. And the scratch as a batch begins with it.
 use mathlib.Core.Path.{_≡_, refl, sym, ap, _∙_, subst}
 use mathlib.Core.Bool.{Bool, true, false}
-use mathlib.Core.List.{List, [], _∷_, _++_, List·Memᴰ as Mem, List·Memᴰ·head as here, List·Memᴰ·tail as there}
+use mathlib.Core.List.{List, _++_, List·Memᴰ as Mem}
 use Prim.Native.Nat.{ℕ, zero, suc, _+_, _*_, _-_, _/_, _≤_, _<_}
 use native.Mathlib.Omega.{arith}
 use borrow.Author.Tests.{ltb-true, ltb-false}
@@ -11,14 +11,10 @@ use lib.ListN.{length, getD, replicate, List·getD-append, getD-replicate}
 use lib.Seq.{getD-append-add}
 use Rattle.definition.specs.Tables.{pad, padded}
 use Rattle.definition.specs.Batch.{Setting}
+use Rattle.laws.specs.Members.{mem-at}
 use Rattle.laws.specs.Apart.{Apart, nobody, another}
 use Rattle.laws.specs.Parts.{part-at}
 use Rattle.fresh.specs.Made.{Between, Fit, RowsMade, freshAt}
-
-mem-at : (xs : List ℕ) (i : ℕ) → i < length xs → Mem (getD xs i 0) xs
-mem-at [] i h = absurd (omega arith)
-mem-at (x ∷ xs) zero h = here refl
-mem-at (x ∷ xs) (suc i) h = there (mem-at xs i (omega arith))
 
 apart-at : {xs : List ℕ} → Apart xs → (i j : ℕ) → i < j → j < length xs → getD xs i 0 ≡ getD xs j 0 → ⊥
 apart-at nobody i j h l e = absurd (omega arith)

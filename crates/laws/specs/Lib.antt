@@ -6,6 +6,7 @@
 --   Rising    `rising` depends only on which ids there are     Words      the search rule, as the code reads a row
 --   Items     the orders of items, ids, the best of a beam     Writing    a slice written from its front
 --   Draws     a draw below m is below m                        Remainders numbers less than m apart differ modulo m
+--   Listed    the listed nodes with their fresh rows
 pub mod Truth
 pub mod Members
 pub mod Apart

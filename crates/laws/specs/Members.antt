@@ -20,6 +20,9 @@ pub record Same {A : Type 0} (xs ys : List A) : Type 0 where
   pub to : (z : A) → Mem z xs → Mem z ys
   pub from : (z : A) → Mem z ys → Mem z xs
 
+pub same-eq : {A : Type 0} {xs ys : List A} → xs ≡ ys → Same xs ys
+same-eq {A} {xs} e = subst (λ (l : List A). Same xs l) e (record { to = λ z m. m; from = λ z m. m })
+
 -- ---- lists of anything
 
 module _ {A : Type 0} where
@@ -44,6 +47,22 @@ module _ {A : Type 0} where
 
   pub snoc-elim : (P : A → Type 0) (xs : List A) (x : A) → ((z : A) → Mem z xs → P z) → P x → (z : A) → Mem z (xs ++ (x ∷ [])) → P z
   snoc-elim P xs x f p = append-elim P xs (x ∷ []) f (cons-elim P x [] p (λ z m. absurd (not-nil m)))
+
+  -- what is there already adds nothing
+  pub same-absorbs : (xs : List A) (x : A) → Mem x xs → Same xs (xs ++ (x ∷ []))
+  same-absorbs xs x h = record { to = λ z m. in-front (x ∷ []) m; from = snoc-elim (λ z. Mem z xs) xs x (λ z m. m) h }
+
+  -- first xs, then ys
+  pub same-join : (us vs ws xs ys : List A) → Same vs (us ++ xs) → Same ws (vs ++ ys) → Same ws (us ++ (xs ++ ys))
+  same-join us vs ws xs ys s t =
+      record {
+        to = λ z m. append-elim (λ u. Mem u (us ++ (xs ++ ys))) vs ys (λ u h. first u (s .to u h)) (λ u h. in-back us (in-back xs h)) z (t .to z m);
+        from = append-elim (λ u. Mem u ws) us (xs ++ ys) (λ u h. t .from u (in-front ys (s .from u (in-front xs h))))
+            (append-elim (λ u. Mem u ws) xs ys (λ u h. t .from u (in-front ys (s .from u (in-back us h)))) (λ u h. t .from u (in-back vs h)));
+      }
+    where
+      first : (u : A) → Mem u (us ++ xs) → Mem u (us ++ (xs ++ ys))
+      first = append-elim (λ u. Mem u (us ++ (xs ++ ys))) us xs (λ u h. in-front (xs ++ ys) h) (λ u h. in-back us (in-front ys h))
 
   pub take-mem : (k : ℕ) (xs : List A) {z : A} → Mem z (take k xs) → Mem z xs
   take-mem k xs {z} m = subst (λ (l : List A). Mem z l) (take-append-drop k xs) (in-front (drop k xs) m)
@@ -249,6 +268,11 @@ mem-groups (suc k) g xs h {z} m =
     (subst (λ (l : List ℕ). Mem z l) (sym (take-append-drop g xs)) m)
 
 -- ---- by places
+
+pub mem-at : (xs : List ℕ) (k : ℕ) → k < length xs → Mem (getD xs k 0) xs
+mem-at [] k h = absurd (omega arith)
+mem-at (x ∷ xs) zero h = here refl
+mem-at (x ∷ xs) (suc k) h = there (mem-at xs k (omega arith))
 
 pub each-at : (p : ℕ → Bool) (xs : List ℕ) → ((k : ℕ) → k < length xs → p (getD xs k 0) ≡ true) → each p xs ≡ true
 unfolding each

@@ -4,19 +4,19 @@ use native.Mathlib.Omega.{arith}
 use mathlib.Core.Path.{_≡_, refl, sym, ap, _∙_, subst}
 use mathlib.Core.Logic.{_⊎_, inl, inr}
 use mathlib.Core.Bool.{not}
-use mathlib.Core.List.{List, List·Memᴰ as Mem}
+use mathlib.Core.List.{List, List·Memᴰ as Mem, List·Memᴰ·append-cases as split}
 use lib.Dec.{eqb}
 use lib.ListN.{length, getD, drop}
 use Rattle.definition.specs.Tables.{row}
 use Rattle.definition.specs.Batch.{Setting, naming, base, mergedIds}
 use Rattle.definition.specs.Slack.{slack}
 use Rattle.laws.specs.Listed.{listedAt}
+use Rattle.laws.specs.Members.{keep-mem}
 use Rattle.laws.specs.Rising.{rising-keeps}
 use Rattle.laws.specs.Words.{padding, Row}
 use Rattle.incoming.specs.Last.{seat}
 use Rattle.incoming.specs.Says.{entry}
-use Rattle.gather.specs.Entries.{keep-to, ids-below, row-part}
-use Rattle.merging.specs.Members.{both-to}
+use Rattle.gather.specs.Entries.{ids-below, row-part}
 use Rattle.merging.specs.Naming.{baseWords, base-words, words-wide, words-listed, seat-within, naming-to}
 
 module _ (g : Setting) (words wide nodes : List ℕ) (fresh node width n : ℕ) (slack-is : width ≡ slack (g .degree)) (own : Row n (row width wide node)) (real : (p : ℕ) → p < length nodes → getD nodes p 0 < n)
@@ -40,7 +40,7 @@ module _ (g : Setting) (words wide nodes : List ℕ) (fresh node width n : ℕ) 
 
   pub merged-below : (z : ℕ) → Mem z (mergedIds g wide (listedAt nodes (drop fresh words)) node) → z < n
   unfolding mergedIds
-  merged-below z m = go (both-to z (base g wide (listedAt nodes (drop fresh words)) node) _ (keep-to (λ w. not (eqb w node)) z _ (rising-keeps _ .to z m) .0))
+  merged-below z m = go (split (base g wide (listedAt nodes (drop fresh words)) node) (keep-mem (λ w. not (eqb w node)) _ (rising-keeps _ .to z m) .0))
     where
       go : Mem z (base g wide (listedAt nodes (drop fresh words)) node) ⊎ Mem z (naming (listedAt nodes (drop fresh words)) node) → z < n
       go (inl h) = base-below z h

@@ -1,5 +1,4 @@
 -- The merged ids of one node: from chains and seats to the definition's `mergedIds`.
-pub mod Members
 pub mod Naming
 pub mod Says
 pub mod Affected

@@ -5,6 +5,7 @@ use mathlib.Core.Path.{_≡_, refl, sym, ap, _∙_, subst}
 use mathlib.Core.Logic.{_⊎_, inl, inr}
 use mathlib.Core.Bool.{Bool, true, false, not, _||_, cond, false≢true}
 use mathlib.Core.List.{List, [], _∷_, _++_, map, List·Memᴰ as Mem, List·Memᴰ·head as here, List·Memᴰ·tail as there, List·Memᴰ·not-nil as not-nil, List·Memᴰ·cases-cons as cases}
+use mathlib.Core.List.{List·Memᴰ·append-cases as split, Memᴰ·append-left as in-front, Memᴰ·append-right as in-back, Memᴰ·map as mem-map, Memᴰ·of-map as of-map}
 use borrow.Author.Tests.{eqb-true, eqb-false, eq-eqb, ne-eqb}
 use lib.Dec.{eqb}
 use lib.ListN.{length, getD, take, drop}
@@ -14,12 +15,10 @@ use Rattle.definition.specs.Tables.{ids, pad, row}
 use Rattle.definition.specs.Batch.{Setting, naming, base, wideRow, wideIds, mergedIds}
 use Rattle.definition.specs.Slack.{slack}
 use Rattle.laws.specs.Listed.{listed, listedAt}
-use Rattle.laws.specs.Members.{Same}
+use Rattle.laws.specs.Members.{Same, keep-mem, mem-keep}
 use Rattle.gather.specs.Grown.{grown, wanted, others, grown-append, grown-rising}
-use Rattle.gather.specs.Entries.{keep-to, keep-from}
 use Rattle.incoming.specs.Last.{named, seat}
 use Rattle.incoming.specs.Says.{entry, sources}
-use Rattle.merging.specs.Members.{both-to, both-left, both-right, map-to, map-from}
 
 -- ---- an id in a row
 pub record Stands (i k : ℕ) (t : List ℕ) : Type 0 where
@@ -146,14 +145,14 @@ module _ (w : List ℕ) (fresh : ℕ) (nodes : List ℕ) (i : ℕ) (id : i ≡ p
   sources-to : (z : ℕ) → Mem z (sources w fresh (length nodes * 64) nodes i) → Mem z (naming (listedAt nodes (drop fresh w)) i)
   unfolding sources
   sources-to z m =
-      let c = map-to (λ e. getD nodes (e / 64) 0) z (named (entry w fresh) i (length nodes * 64)) m in
-      let n = named-to (entry w fresh) i (length nodes * 64) (c .of) (c .in-it) in
+      let c = of-map (λ e. getD nodes (e / 64) 0) (named (entry w fresh) i (length nodes * 64)) m in
+      let n = named-to (entry w fresh) i (length nodes * 64) (c .0) (c .1) in
       let lt = n .0 in
-      let q : c .of / 64 * 64 + (c .of - c .of / 64 * 64) ≡ c .of = omega arith in
+      let q : c .0 / 64 * 64 + (c .0 - c .0 / 64 * 64) ≡ c .0 = omega arith in
       let len : length (drop fresh w) ≡ length w - fresh = lib.ListN.length-drop fresh w in
-      subst (λ (y : ℕ). Mem y (naming (listedAt nodes (drop fresh w)) i)) (sym (c .is))
-      (naming-from nodes (drop fresh w) i (c .of / 64) (c .of - c .of / 64 * 64) id (omega arith) (omega arith) (omega arith)
-      (ap (λ (k : ℕ). getD (drop fresh w) k 0) q ∙ getD-drop fresh w (c .of) 0 ∙ n .1))
+      subst (λ (y : ℕ). Mem y (naming (listedAt nodes (drop fresh w)) i)) (c .2)
+      (naming-from nodes (drop fresh w) i (c .0 / 64) (c .0 - c .0 / 64 * 64) id (omega arith) (omega arith) (omega arith)
+      (ap (λ (k : ℕ). getD (drop fresh w) k 0) q ∙ getD-drop fresh w (c .0) 0 ∙ n .1))
 
   sources-from : (z : ℕ) → Mem z (naming (listedAt nodes (drop fresh w)) i) → Mem z (sources w fresh (length nodes * 64) nodes i)
   unfolding sources
@@ -164,7 +163,7 @@ module _ (w : List ℕ) (fresh : ℕ) (nodes : List ℕ) (i : ℕ) (id : i ≡ p
       let q : (s .seat-of * 64 + s .entry-of) / 64 ≡ s .seat-of = omega arith in
       let at : entry w fresh (s .seat-of * 64 + s .entry-of) ≡ i = sym (getD-drop fresh w (s .seat-of * 64 + s .entry-of) 0) ∙ s .is in
       subst (λ (y : ℕ). Mem y (map (λ e. getD nodes (e / 64) 0) (named (entry w fresh) i (length nodes * 64)))) (ap (λ (k : ℕ). getD nodes k 0) q ∙ sym (s .who))
-      (map-from (λ e. getD nodes (e / 64) 0) (s .seat-of * 64 + s .entry-of) _ (named-from (entry w fresh) i (length nodes * 64) (s .seat-of * 64 + s .entry-of) (omega arith) at))
+      (mem-map (λ e. getD nodes (e / 64) 0) (named-from (entry w fresh) i (length nodes * 64) (s .seat-of * 64 + s .entry-of) (omega arith) at))
 
   -- the contract of the chains: the same ids
   pub sources-naming : Same (sources w fresh (length nodes * 64) nodes i) (naming (listedAt nodes (drop fresh w)) i)
@@ -176,22 +175,22 @@ module _ (w : List ℕ) (fresh : ℕ) (nodes : List ℕ) (i : ℕ) (g : Setting)
       → Mem z (keep (λ v. not (eqb v i)) (base g wide (listedAt nodes (drop fresh w)) i ++ naming (listedAt nodes (drop fresh w)) i))
   unfolding wanted others ids
   to-it z (inl m) =
-      let k = keep-to (λ v. not (eqb v i)) z (ids bw) m in
-      keep-from (λ v. not (eqb v i)) z _ (both-left z _ _ (subst (λ (l : List ℕ). Mem z l) (sym eq) (k .0))) (k .1)
+      let k = keep-mem (λ v. not (eqb v i)) (ids bw) m in
+      mem-keep (λ v. not (eqb v i)) _ (in-front _ (subst (λ (l : List ℕ). Mem z l) (sym eq) (k .0))) (k .1)
   to-it z (inr m) =
-      let k = keep-to (λ v. not (eqb v i)) z (ids (sources w fresh (length nodes * 64) nodes i)) m in
-      let j = keep-to (λ v. not (eqb v pad)) z (sources w fresh (length nodes * 64) nodes i) (k .0) in
-      keep-from (λ v. not (eqb v i)) z _ (both-right z (base g wide (listedAt nodes (drop fresh w)) i) _ (sources-naming w fresh nodes i id fits .to z (j .0))) (k .1)
+      let k = keep-mem (λ v. not (eqb v i)) (ids (sources w fresh (length nodes * 64) nodes i)) m in
+      let j = keep-mem (λ v. not (eqb v pad)) (sources w fresh (length nodes * 64) nodes i) (k .0) in
+      mem-keep (λ v. not (eqb v i)) _ (in-back (base g wide (listedAt nodes (drop fresh w)) i) (sources-naming w fresh nodes i id fits .to z (j .0))) (k .1)
 
   from-it : (z : ℕ) → not (eqb z i) ≡ true → Mem z (base g wide (listedAt nodes (drop fresh w)) i) ⊎ Mem z (naming (listedAt nodes (drop fresh w)) i)
       → Mem z (wanted i bw ++ wanted i (sources w fresh (length nodes * 64) nodes i))
   unfolding wanted others ids
-  from-it z o (inl m) = both-left z _ _ (keep-from (λ v. not (eqb v i)) z (ids bw) (subst (λ (l : List ℕ). Mem z l) eq m) o)
+  from-it z o (inl m) = in-front _ (mem-keep (λ v. not (eqb v i)) (ids bw) (subst (λ (l : List ℕ). Mem z l) eq m) o)
   from-it z o (inr m) =
       let s = naming-to nodes (drop fresh w) i z m in
       let ne : z ≡ pad → ⊥ = λ q. real (s .seat-of) (s .low) (sym (s .who) ∙ q) in
       let no : not (eqb z pad) ≡ true = ap not (ne-eqb z pad ne) in
-      both-right z (wanted i bw) _ (keep-from (λ v. not (eqb v i)) z _ (keep-from (λ v. not (eqb v pad)) z _ (sources-naming w fresh nodes i id fits .from z m) no) o)
+      in-back (wanted i bw) (mem-keep (λ v. not (eqb v i)) _ (mem-keep (λ v. not (eqb v pad)) _ (sources-naming w fresh nodes i id fits .from z m) no) o)
 
   -- base and sources, put in one by one
   pub gathered : grown (wanted i (sources w fresh (length nodes * 64) nodes i)) (grown (wanted i bw) []) ≡ mergedIds g wide (listedAt nodes (drop fresh w)) i
@@ -200,8 +199,8 @@ module _ (w : List ℕ) (fresh : ℕ) (nodes : List ℕ) (i : ℕ) (g : Setting)
       sym (grown-append (wanted i bw) (wanted i (sources w fresh (length nodes * 64) nodes i)) [])
       ∙ grown-rising _ _
       (record {
-        to = λ z m. to-it z (both-to z (wanted i bw) _ m);
-        from = λ z m. let k = keep-to (λ v. not (eqb v i)) z _ m in from-it z (k .1) (both-to z (base g wide (listedAt nodes (drop fresh w)) i) _ (k .0));
+        to = λ z m. to-it z (split (wanted i bw) m);
+        from = λ z m. let k = keep-mem (λ v. not (eqb v i)) _ m in from-it z (k .1) (split (base g wide (listedAt nodes (drop fresh w)) i) (k .0));
       })
 
 -- ---- the base

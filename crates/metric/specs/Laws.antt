@@ -1,10 +1,10 @@
 -- Laws of the metric: symmetric, 0 on equal lists, and at most 65,025 for each sample.
-use mathlib.Core.Path.{_≡_, refl, sym}
+use mathlib.Core.Path.{_≡_, refl, sym, ap, _∙_}
 use mathlib.Core.List.{List, [], _∷_}
 use Prim.Native.Nat.{ℕ, suc, _+_, _-_, _*_, _≤_, _<_, zero-le}
-use native.Mathlib.Nat.{mul-le-mul, mul-le-mul-right, mul-suc, add-comm, le-trans, le-of-eq, suc-mul}
+use native.Mathlib.Nat.{mul-le-mul, mul-le-mul-right, mul-suc, add-comm, le-trans, le-of-eq, suc-mul, add-sub-cancel-left}
 use native.Mathlib.Omega.{arith}
-use lib.ListN.{length, getD, length-take, length-drop}
+use lib.ListN.{length, getD, take, drop, length-take, length-drop}
 use Rattle.definition.specs.Metric.{gap, squared, summed, metric, vector, fromQuery, between}
 use Rattle.whole.specs.Whole.{farthest}
 use Rattle.metric.specs.Exact.{VectorIn}
@@ -78,3 +78,12 @@ vector-in dim vectors n i all h = record { reach = omega (arith, entry-fits i n 
 pub vector-length : (dim : ℕ) (vectors : List ℕ) (i : ℕ) → VectorIn dim vectors i → length (vector dim vectors i) ≡ dim
 unfolding vector
 vector-length dim vectors i h = simp (length-take, length-drop) (omega arith)
+
+-- the vector of an entry as a part of the flat vectors lends it
+module _ (dim : ℕ) (vectors : List ℕ) (i : ℕ) where
+  pub lent-vector : take ((i * dim + dim) - i * dim) (drop (i * dim) vectors) ≡ vector dim vectors i
+  unfolding vector
+  lent-vector = rw add-sub-cancel-left refl
+
+  pub lent-length : VectorIn dim vectors i → length (take ((i * dim + dim) - i * dim) (drop (i * dim) vectors)) ≡ dim
+  lent-length h = ap length lent-vector ∙ vector-length dim vectors i h

@@ -1,6 +1,5 @@
 -- One id more in the pool, or none; and one stretch of ids after another.
 use mathlib.Core.Path.{_≡_, refl, sym, ap, ap₂, _∙_, subst}
-use mathlib.Core.Logic.{_⊎_, inl, inr}
 use mathlib.Core.Bool.{Bool, true, false, _||_}
 use mathlib.Core.List.{List, [], _∷_, _++_, map, append-nil, List·Memᴰ as Mem}
 use Prim.Native.Nat.{ℕ, suc, _+_, _≤_, _<_}
@@ -14,11 +13,11 @@ use lib.ListN.{length, getD, take, drop, set, length-set, length-drop}
 use lib.Seq.{take-suc-set, take-set-le, drop-set-lt, drop-set-add, getD-drop, getD-set-same, getD-set-other}
 use Rattle.definition.specs.Lists.{isIn}
 use Rattle.definition.specs.Metric.{whole}
-use Rattle.laws.specs.Apart.{Apart}
+use Rattle.laws.specs.Members.{isIn-mem, isIn-none, snoc-elim, same-eq, same-absorbs, same-join}
+use Rattle.laws.specs.Apart.{Apart, apart-snoc}
 use Rattle.greedy.specs.Scratch.{count}
 use Rattle.greedy.proofs.Counting.{count-le, count-lt, count-set, in-snoc}
 use Rattle.pooling.specs.Pooled.{Pooled, Measured, Added}
-use Rattle.pooling.proofs.Members.{in-mem, not-in, snoc-cases, apart-snoc, same-eq, same-absorbs, same-join}
 
 map-snoc : (f : ℕ → Float) (xs : List ℕ) (x : ℕ) → map f (xs ++ (x ∷ [])) ≡ map f xs ++ (f x ∷ [])
 map-snoc f [] x = refl
@@ -37,7 +36,7 @@ module _ (n stamp len : ℕ) (pool : List ℕ) (p : Pooled n stamp len pool) whe
     added-seen e =
         record {
           pooled = p;
-          same = same-absorbs (take len pool) id (in-mem id (take len pool) (sym (p .marks id low) ∙ eq-eqb (getD pool (n + id) 0) stamp e));
+          same = same-absorbs (take len pool) id (isIn-mem id (take len pool) (sym (p .marks id low) ∙ eq-eqb (getD pool (n + id) 0) stamp e));
           measured = λ d k m. m;
         }
 
@@ -84,11 +83,7 @@ module _ (n stamp len : ℕ) (pool : List ℕ) (p : Pooled n stamp len pool) whe
           ap (λ (k : ℕ). eqb k stamp) (mark-other i (eqb-false i id e)) ∙ p .marks i h ∙ or-false (isIn i (take len pool))
 
       absent : ¬ Mem id (take len pool)
-      absent = not-in id (take len pool) (sym (p .marks id low) ∙ ne-eqb (getD pool (n + id) 0) stamp new)
-
-      below-at : (i : ℕ) → Mem i (take len pool) ⊎ (i ≡ id) → i < n
-      below-at i (inl m) = p .below i m
-      below-at i (inr e) = omega arith
+      absent = isIn-none id (take len pool) (sym (p .marks id low) ∙ ne-eqb (getD pool (n + id) 0) stamp new)
 
       pooled-more : Pooled n stamp (suc len) (set (set pool (n + id) stamp) len id)
       pooled-more =
@@ -99,7 +94,7 @@ module _ (n stamp len : ℕ) (pool : List ℕ) (p : Pooled n stamp len pool) whe
             marks = λ i h.
                 ap (λ (k : ℕ). eqb k stamp) (mark-at i) ∙ test-at i h (eqb i id) refl ∙ sym (in-snoc i (take len pool) id) ∙ ap (isIn i) (sym ids-are);
             once = subst Apart (sym ids-are) (apart-snoc id (p .once) absent);
-            below = λ i m. below-at i (snoc-cases i (take len pool) id (subst (Mem i) ids-are m));
+            below = λ i m. snoc-elim (λ z. z < n) (take len pool) id (p .below) low i (subst (Mem i) ids-are m);
           }
 
       measured-more : (d : ℕ → ℕ) → n ≤ length dists → dist ≡ whole (d id) → Measured d len pool dists → Measured d (suc len) (set (set pool (n + id) stamp) len id) (set dists len dist)

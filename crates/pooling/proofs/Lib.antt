@@ -1,5 +1,4 @@
 -- The laws behind the pool's functions.
-pub mod Members
 pub mod Adding
 pub mod Lending
 pub mod Rows

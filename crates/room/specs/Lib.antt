@@ -1,3 +1,3 @@
--- The room of a build call, and its outcome by its number.
+-- The room of a call left zero, and its outcome by its number.
 pub mod Clear
 pub mod Outcomes

@@ -3,15 +3,12 @@ use mathlib.Core.Path.{_≡_, refl, sym, ap, _∙_, subst}
 use mathlib.Core.List.{List, [], _∷_, _++_}
 use Prim.Native.Nat.{ℕ, zero, suc, _+_, _*_, _-_, _≤_, _<_}
 use native.Mathlib.Omega.{arith}
-use borrow.Rule.Slice.PartMut.{putMid}
-use lib.Ieee.{Float, ofBits, binary32}
-use lib.ListN.{length, getD, take, drop, set, replicate, length-set}
+use lib.Ieee.{Float}
+use lib.ListN.{length, getD, take, drop, set, length-set}
 use lib.Seq.{length-take-le, getD-take}
-use Rattle.definition.specs.Lists.{cleared}
-use Rattle.definition.specs.Floats.{nought}
 use Rattle.definition.specs.Refusals.{searchWords, searchFloats}
-use Rattle.laws.specs.Parts.{part, part-length}
 use Rattle.laws.specs.Backwards.{rev, back-step}
+use Rattle.room.specs.Clear.{FrontClear}
 use Rattle.search.specs.Answering.{Wiped}
 
 -- i places of the output are written
@@ -33,15 +30,7 @@ copy-step {A} d from old len i now room h k c =
           ∙ back-step d (take len from) old i len (length-take-le len from room) h k;
     }
 
--- a front of w places came back all z
-cleared-front : {A : Type 0} (z : A) (w : ℕ) (xs ys : List A) → w ≤ length xs → ys ≡ replicate (length (part 0 w xs)) z → putMid 0 (w - 0) xs ys ≡ replicate w z ++ drop w xs
-cleared-front {A} z w xs ys h e =
-    let q : w - 0 ≡ w = omega arith in
-    let n : length (part 0 w xs) ≡ w = part-length 0 w xs h ∙ q in
-    ap (λ (l : List A). l ++ drop (w - 0) xs) (e ∙ ap (λ (m : ℕ). replicate m z) n) ∙ ap (λ (m : ℕ). replicate w z ++ drop m xs) q
-
-pub wiped : (n : ℕ) (words : List ℕ) (floats : List Float) (ys : List ℕ) (zs : List Float) → 2 * n + 256 ≤ length words → n + 256 ≤ length floats
-    → ys ≡ replicate (length (part 0 (2 * n + 256) words)) 0 → zs ≡ replicate (length (part 0 (n + 256) floats)) (ofBits binary32 0)
-    → Wiped n words floats (putMid 0 (2 * n + 256 - 0) words ys) (putMid 0 (n + 256 - 0) floats zs)
-unfolding cleared searchWords searchFloats nought
-wiped n words floats ys zs p q e f = record { words-are = cleared-front 0 (2 * n + 256) words ys p e; floats-are = cleared-front (ofBits binary32 0) (n + 256) floats zs q f }
+-- the two fronts are the stated room
+pub wiped : (n : ℕ) (words₀ : List ℕ) (floats₀ : List Float) (words : List ℕ) (floats : List Float) → FrontClear (2 * n + 256) (n + 256) words₀ floats₀ words floats → Wiped n words₀ floats₀ words floats
+unfolding searchWords searchFloats
+wiped n words₀ floats₀ words floats c = record { words-are = c .words-are; floats-are = c .floats-are }

@@ -62,8 +62,7 @@ fn wipe(words: &mut [u32], floats: &mut [f32], n: usize)
 {
     let w = 2 * n + 256;
     let f = n + 256;
-    laws::clear_words(&mut words[0..w]);
-    laws::clear_floats(&mut floats[0..f]);
+    room::clear_front(words, floats, w, f);
 }
 
 // A search that no check refuses, for a caller who holds the proof of it: no check is made.

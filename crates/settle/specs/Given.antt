@@ -11,7 +11,7 @@ use Rattle.definition.specs.Slack.{slack}
 use Rattle.laws.specs.Tables.{row-fits}
 use Rattle.metric.specs.Exact.{VectorIn}
 use Rattle.pool.specs.Says.{Distinct}
-use Rattle.gather.specs.Grown.{mem-at}
+use Rattle.laws.specs.Members.{mem-at}
 
 -- `width` is the slack: how many words a row of the wide table has
 pub record Given (n dim : ℕ) (vectors : List ℕ) (p : Params) (width : ℕ) : Type 0 where

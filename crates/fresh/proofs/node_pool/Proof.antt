@@ -5,8 +5,7 @@ use native.Mathlib.Omega.{arith}
 use borrow.Author.Needs.{needs}
 use mathlib.Core.List.{List}
 use Rattle.definition.specs.Metric.{fromQuery}
-use Rattle.metric.specs.Laws.{entry-fits, vector-in}
-use Rattle.prune.specs.Lent.{lent-vector, lent-length}
+use Rattle.metric.specs.Laws.{entry-fits, vector-in, lent-vector, lent-length}
 use Rattle.pooling.specs.Regions.{Grown, pooledIds}
 use Rattle.fresh.proofs.Making.{slack-small, holding-blank}
 use Rattle.fresh.proofs.node_pool.Statement.{statement}

@@ -1,6 +1,6 @@
 -- `shade_later` meets its contract. The part lent as the query is the taken entry's vector.
 use borrow.Author.Needs.{needs}
-use Rattle.prune.specs.Lent.{lent-vector, lent-length}
+use Rattle.metric.specs.Laws.{lent-vector, lent-length}
 use Rattle.prune.proofs.shade_later.Statement.{statement}
 use Rattle.prune.proofs.shade_later.Tie as tie
 
