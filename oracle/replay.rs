@@ -1,6 +1,5 @@
 //! Makes the fixed list of cases that crates/replay replays: `stdin`, and from 000's answers alone `stdout`. The proved library takes no part in it.
-//! After oracle/build.sh has compiled 000 to OUT:
-//!     rustc -O --edition 2021 oracle/replay.rs -o OUT/replay -L OUT --extern diskann=OUT/libdiskann.rlib && OUT/replay crates/replay
+//! `oracle/list` compiles and runs it.
 #[allow(dead_code)]
 mod cases;
 #[allow(dead_code)]
