@@ -4,6 +4,8 @@
 mod cases;
 #[allow(dead_code)]
 mod ours;
+#[allow(dead_code)]
+mod tally;
 use cases::*;
 use diskann::probe;
 use ours::{slack, Params, PAD};
@@ -128,8 +130,10 @@ fn case_of(kind: usize, d: &Data, alpha: usize) -> Case {
     Case { kind, n: d.n, dim: d.dim, degree, beam, alpha, extra, start: d.start, vectors: d.vectors.clone(), words: 6 * d.n + 32_768, floats: 4 * d.n + 1_024, ..Case::default() }
 }
 
-fn params(d: &Data) -> probe::Params {
-    probe::Params { degree: d.params.degree, beam: d.params.beam, alpha: d.params.alpha, extra: d.params.extra }
+/// 000's wide and closed rows.
+fn built(d: &Data, order: &[u32], seeds: &[u32], rows: Vec<Vec<u32>>) -> (Vec<Vec<u32>>, Vec<Vec<u32>>) {
+    let params = probe::Params { degree: d.params.degree, beam: d.params.beam, alpha: d.params.alpha, extra: d.params.extra };
+    probe::build(probe::Build { n: d.n, dim: d.dim, vectors: &d.vectors, params, start: d.start, order, seeds, rows }, probe::Bytes)
 }
 
 fn distance(r: &mut Rng) -> (Case, Left) {
@@ -153,7 +157,7 @@ fn search(r: &mut Rng, n: usize, most: usize) -> (Case, Left) {
     let table = searched(r, n, d.params.degree);
     let beam = match r.below(5) { 0 => 0, 1 => 256, _ => 1 + r.below(40) };
     let query: Vec<u8> = if r.below(3) == 0 { let i = r.below(n); d.vectors[i * d.dim..(i + 1) * d.dim].to_vec() } else { (0..d.dim).map(|_| r.next() as u8).collect() };
-    let found = probe::search(d.dim, &d.vectors, d.params.degree, &table, &query, d.start, beam);
+    let found = probe::search(probe::Search { dim: d.dim, vectors: &d.vectors, degree: d.params.degree, table: &table, query: &query, start: d.start, beam });
     let k = beam.max(1);
     let c = Case { beam, k, query, table, words: 2 * n + 256, floats: n + 256, ids: k, dists: k, ..case_of(SEARCH, &d, alpha) };
     let l = Left { count: found.len(), ids: found.iter().map(|p| p.0).collect(), dists: found.iter().map(|p| p.1 as u32).collect(), words: c.words, floats: c.floats, ..Left::default() };
@@ -164,7 +168,7 @@ fn build_on(r: &mut Rng, d: &Data, alpha: usize) -> (Case, Left) {
     let (n, degree, s) = (d.n, d.params.degree, slack(d.params.degree));
     let opening = rows(r, n, degree.min(n - 1));
     let (list, seeds) = (r.shuffled(n), seeds(r, d, n));
-    let (wide, closed) = probe::build(n, d.dim, &d.vectors, &params(d), d.start, &list, &seeds, opening.clone());
+    let (wide, closed) = built(d, &list, &seeds, opening.clone());
     let c = Case { list, seeds, table: flat(&opening, degree), wide: n * s, closed: n * degree, ..case_of(BUILD, d, alpha) };
     let l = Left { wide: flat(&wide, s), closed: flat(&closed, degree), words: c.words, floats: c.floats, ..Left::default() };
     (c, l)
@@ -197,7 +201,7 @@ fn batch(r: &mut Rng, n: usize, most: usize) -> (Case, Left) {
     let count = match r.below(4) { 0 => n, 1 => 0, _ => r.below(n + 1) };
     let list = r.distinct(count, n, &[]);
     let seeds = seeds(r, &d, list.len());
-    let wide = probe::build(n, d.dim, &d.vectors, &params(&d), d.start, &list, &seeds, table.clone()).0;
+    let wide = built(&d, &list, &seeds, table.clone()).0;
     let c = Case { list, seeds, table: flat(&table, s), ..case_of(BATCH, &d, alpha) };
     let l = Left { wide: flat(&wide, s), words: c.words, floats: c.floats, ..Left::default() };
     (c, l)
@@ -207,7 +211,7 @@ fn close(r: &mut Rng, n: usize, most: usize) -> (Case, Left) {
     let (d, alpha) = data_of(r, n, most);
     let (degree, s) = (d.params.degree, slack(d.params.degree));
     let table = rows(r, n, s.min(n - 1));
-    let closed = probe::build(n, d.dim, &d.vectors, &params(&d), d.start, &[], &[], table.clone()).1;
+    let closed = built(&d, &[], &[], table.clone()).1;
     let c = Case { beam: 1_000, extra: 99, table: flat(&table, s), closed: n * degree, ..case_of(CLOSE, &d, alpha) };
     let l = Left { closed: flat(&closed, degree), words: c.words, floats: c.floats, ..Left::default() };
     (c, l)
@@ -217,7 +221,7 @@ fn open(r: &mut Rng, n: usize, most: usize) -> (Case, Left) {
     let (d, alpha) = data_of(r, n, most);
     let (degree, s) = (d.params.degree, slack(d.params.degree));
     let opening = rows(r, n, degree.min(n - 1));
-    let wide = probe::build(n, d.dim, &d.vectors, &params(&d), d.start, &[], &[], opening.clone()).0;
+    let wide = built(&d, &[], &[], opening.clone()).0;
     (Case { table: flat(&opening, degree), wide: n * s, ..case_of(OPEN, &d, alpha) }, Left { wide: flat(&wide, s), ..Left::default() })
 }
 
