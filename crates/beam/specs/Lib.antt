@@ -2,4 +2,5 @@
 pub mod Held
 pub mod ListLaws
 pub mod Order
+pub mod Caps
 pub mod Reading

@@ -1,6 +1,7 @@
-// The laws are in specs/. The code here leaves a lent part zero.
+// The laws are in specs/. The code here is what several crates call: a lent part left zero, and the lesser of two numbers.
 
 ghost use mathlib.Core.Path.{_≡_};
+ghost use Prim.Native.Nat.{min};
 ghost use lib.ListN.{length, replicate};
 ghost use lib.Ieee.{ofBits, binary32};
 
@@ -24,4 +25,13 @@ pub fn clear_floats(s: &mut [f32])
         s[i] = 0.0;
         i += 1;
     }
+}
+
+pub fn least(a: usize, b: usize) -> usize
+    ensures { λ r. ⌜ r ≡ min a b ⌝ }
+{
+    if a < b {
+        return a;
+    }
+    b
 }

@@ -2,11 +2,11 @@
 
 use definition::Answer;
 ghost use mathlib.Core.Path.{_≡_};
-ghost use Prim.Native.Nat.{_+_, _*_, _<_, _≤_};
-ghost use lib.ListN.{length};
+ghost use Prim.Native.Nat.{ℕ, _+_, _*_, _<_, _≤_};
+ghost use lib.ListN.{length, getD};
 ghost use Rattle.definition.specs.Metric.{squared, metric, fromQuery, between};
 ghost use Rattle.definition.specs.Outcome.{distanceOut};
-ghost use Rattle.metric.specs.Exact.{Exact, VectorIn};
+ghost use Rattle.metric.specs.Exact.{Exact, VectorIn, Distances};
 ghost use Rattle.metric.specs.Stretches.{Stretch, Adds};
 
 // What two samples add to a distance. The difference is signed, and not worked out by a branch, so that eight of them go into one instruction.
@@ -75,6 +75,20 @@ pub fn from_query(dim: usize, vectors: &[u8], query: &[u8], i: usize) -> f32
     let at = i * dim;
     let end = at + dim;
     summed(query, &vectors[at..end])
+}
+
+// The distance from a query to each of some entries. None waits for another, so that the vectors come from memory side by side.
+pub fn from_query_each(dim: usize, vectors: &[u8], query: &[u8], ids: &[u32], dists: &mut [f32])
+    requires { ⌜ ((j : ℕ) → j < length (now ids) → VectorIn dim (now vectors) (getD (now ids) j 0)) ⌝ }
+    requires { ⌜ (length (now query) ≡ dim) × (dim ≤ 256) ⌝ }
+    requires { ⌜ length (now ids) ≡ length (now dists) ⌝ }
+    ensures { λ _. ⌜ Distances (fromQuery dim (now (vectors .entry)) (now (query .entry))) (now (ids .entry)) (now (dists .exit)) ⌝ }
+{
+    let mut j = 0;
+    while j < ids.len() {
+        dists[j] = from_query(dim, vectors, query, ids[j] as usize);
+        j += 1;
+    }
 }
 
 // The distance between entries i and j.

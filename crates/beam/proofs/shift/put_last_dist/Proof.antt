@@ -1,4 +1,4 @@
--- `beam::shift::drop_first_dist`: from the first place up, each place gets what stands behind it.
+-- `beam::shift::put_last_dist`: from the first place up, each place gets what stands behind it, and the last gets the new one.
 use mathlib.Core.Path.{_≡_, refl}
 use Prim.Native.Nat.{_-_}
 use native.Mathlib.Omega.{arith}
@@ -6,14 +6,14 @@ use borrow.Author.Needs.{needs}
 use lib.Ieee.{nan}
 use lib.ListN.{length}
 use Rattle.beam.specs.ListLaws.{Forward, forward-start, forward-step, forward-end}
-use Rattle.beam.proofs.shift.drop_first_dist.Statement.{statement}
-use Rattle.beam.proofs.shift.drop_first_dist.Tie as tie
+use Rattle.beam.proofs.shift.put_last_dist.Statement.{statement}
+use Rattle.beam.proofs.shift.put_last_dist.Tie as tie
 
 abbrev Inv-loop : tie.InvT-loop
-Inv-loop dists₀ last j₀ dists j = (last ≡ length dists₀ - 1) × Forward dists₀ j dists
+Inv-loop dists₀ dist last j₀ dists j = (last ≡ length dists₀ - 1) × Forward dists₀ j dists
 
 abbrev μ-loop : tie.MeasureT-loop
-μ-loop dists₀ last j₀ dists j = last - j
+μ-loop dists₀ dist last j₀ dists j = last - j
 
 sub-last : tie.Need-sub-last Inv-loop μ-loop
 sub-last c = search needs
@@ -42,14 +42,20 @@ loop-less c = omega arith
 loop-again : tie.Need-loop-again Inv-loop μ-loop
 loop-again c = (refl, forward-step nan _ _ _ (omega arith) (c .before .before .loop .inv .1))
 
+mul-dists-3 : tie.Need-mul-dists-3 Inv-loop μ-loop
+mul-dists-3 c = search needs
+
+slice-write-dists-2 : tie.Need-slice-write-dists-2 Inv-loop μ-loop
+slice-write-dists-2 c = search needs
+
 same-length : tie.Need-same-length Inv-loop μ-loop
 same-length c = search needs
 
 returns : tie.Need-returns Inv-loop μ-loop
-returns c = forward-end _ _ _ (omega arith) (c .before .loop .inv .1)
+returns c = forward-end _ _ _ _ _ (c .before .loop .inv .0) (omega arith) (c .before .loop .inv .1)
 
-pub drop-first-dist-spec : {M : Type 1} → statement M
-drop-first-dist-spec =
+pub put-last-dist-spec : {M : Type 1} → statement M
+put-last-dist-spec =
     tie.close
     (tie.spec
     Inv-loop
@@ -63,5 +69,7 @@ drop-first-dist-spec =
     slice-write-dists
     loop-less
     loop-again
+    mul-dists-3
+    slice-write-dists-2
     same-length
     returns)

@@ -1,18 +1,18 @@
--- `beam::shift::drop_first_id`: from the first place up, each place gets what stands behind it.
+-- `beam::shift::put_last_id`: from the first place up, each place gets what stands behind it, and the last gets the new one.
 use mathlib.Core.Path.{_≡_, refl}
 use Prim.Native.Nat.{_-_}
 use native.Mathlib.Omega.{arith}
 use borrow.Author.Needs.{needs}
 use lib.ListN.{length}
 use Rattle.beam.specs.ListLaws.{Forward, forward-start, forward-step, forward-end}
-use Rattle.beam.proofs.shift.drop_first_id.Statement.{statement}
-use Rattle.beam.proofs.shift.drop_first_id.Tie as tie
+use Rattle.beam.proofs.shift.put_last_id.Statement.{statement}
+use Rattle.beam.proofs.shift.put_last_id.Tie as tie
 
 abbrev Inv-loop : tie.InvT-loop
-Inv-loop ids₀ last j₀ ids j = (last ≡ length ids₀ - 1) × Forward ids₀ j ids
+Inv-loop ids₀ id last j₀ ids j = (last ≡ length ids₀ - 1) × Forward ids₀ j ids
 
 abbrev μ-loop : tie.MeasureT-loop
-μ-loop ids₀ last j₀ ids j = last - j
+μ-loop ids₀ id last j₀ ids j = last - j
 
 sub-last : tie.Need-sub-last Inv-loop μ-loop
 sub-last c = search needs
@@ -41,14 +41,20 @@ loop-less c = omega arith
 loop-again : tie.Need-loop-again Inv-loop μ-loop
 loop-again c = (refl, forward-step 0 _ _ _ (omega arith) (c .before .before .loop .inv .1))
 
+mul-ids-3 : tie.Need-mul-ids-3 Inv-loop μ-loop
+mul-ids-3 c = search needs
+
+slice-write-ids-2 : tie.Need-slice-write-ids-2 Inv-loop μ-loop
+slice-write-ids-2 c = search needs
+
 same-length : tie.Need-same-length Inv-loop μ-loop
 same-length c = search needs
 
 returns : tie.Need-returns Inv-loop μ-loop
-returns c = forward-end _ _ _ (omega arith) (c .before .loop .inv .1)
+returns c = forward-end _ _ _ _ _ (c .before .loop .inv .0) (omega arith) (c .before .loop .inv .1)
 
-pub drop-first-id-spec : {M : Type 1} → statement M
-drop-first-id-spec =
+pub put-last-id-spec : {M : Type 1} → statement M
+put-last-id-spec =
     tie.close
     (tie.spec
     Inv-loop
@@ -62,5 +68,7 @@ drop-first-id-spec =
     slice-write-ids
     loop-less
     loop-again
+    mul-ids-3
+    slice-write-ids-2
     same-length
     returns)

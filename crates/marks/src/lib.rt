@@ -1,0 +1,56 @@
+// Part 3. Marks: an entry is visited where its mark is the epoch. Beside them, in the order of their visits, the ids of the visited.
+//
+//     words:   marks 0 .. n | visited ids n .. 2n
+
+ghost use mathlib.Core.Path.{_≡_};
+ghost use mathlib.Core.List.{[], _∷_};
+ghost use Prim.Native.Nat.{ℕ, _+_, _*_, _≤_, _<_};
+ghost use lib.ListN.{length};
+ghost use Rattle.laws.specs.Words.{Row};
+ghost use Rattle.marks.specs.Marked.{Marks, Marked, Gathers, Fresh};
+
+// The epoch of the next walk: one more with wrap; at 0 the marks are cleared and it is 1.
+pub fn next_epoch(words: &mut [u32], n: usize, epoch: u32) -> u32
+    requires { ⌜ (n ≤ length (now words)) × Marks n (now words) epoch ⌝ }
+    ensures { λ r. ⌜ Fresh n (now (words .entry)) (now (words .exit)) epoch r ⌝ }
+{
+    if epoch == 0xFFFFFFFF {
+        laws::clear_words(&mut words[0..n]);
+        return 1;
+    }
+    epoch + 1
+}
+
+// One entry, skipped where it is marked; else marked, and written behind the v visited. Returns how many they are now.
+pub fn note(words: &mut [u32], n: usize, epoch: u32, v: usize, id: u32) -> usize
+    requires { ⌜ Marked n epoch (now words) v ⌝ }
+    requires { ⌜ id < n ⌝ }
+    ensures { λ r. ⌜ Gathers n epoch (now (words .entry)) v (now (words .exit)) r (id ∷ []) ⌝ }
+{
+    let i = id as usize;
+    if words[i] == epoch {
+        return v;
+    }
+    let at = n + v;
+    words[i] = epoch;
+    words[at] = id;
+    v + 1
+}
+
+// The new ids of a row, in order; padding is skipped wherever it stands.
+pub fn gather(words: &mut [u32], n: usize, epoch: u32, v: usize, ids: &[u32]) -> usize
+    requires { ⌜ Marked n epoch (now words) v ⌝ }
+    requires { ⌜ Row n (now ids) ⌝ }
+    ensures { λ r. ⌜ Gathers n epoch (now (words .entry)) v (now (words .exit)) r (now (ids .entry)) ⌝ }
+{
+    let mut seen = v;
+    let mut k = 0;
+    while k < ids.len() {
+        let id = ids[k];
+        if id != 0xFFFFFFFF {
+            seen = note(words, n, epoch, seen, id);
+        }
+        k += 1;
+    }
+    seen
+}
