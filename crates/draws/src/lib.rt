@@ -11,7 +11,7 @@ ghost use mathlib.Core.Path.{_≡_};
 ghost use Rattle.definition.specs.Outcome.{refused, done};
 ghost use Rattle.draws.specs.Says.{stepped, DrawSays, RowsSays, SeedsSays, OrderSays, PivotsSays};
 
-mod numbers; // a lesser number, a remainder by comparison
+mod numbers; // a remainder by comparison
 mod order;
 mod pivots;
 mod rows;
@@ -116,7 +116,7 @@ pub fn pivots_drawn(state: u64, n: usize, out: &mut [u32]) -> Stepped
     if bad_count(n) {
         return kept(state, 2);
     }
-    let many = numbers::least(8, n);
+    let many = laws::least(8, n);
     if out.len() < many {
         return kept(state, 10);
     }

@@ -1,17 +1,7 @@
-// Small functions of numbers.
+// A small function of numbers.
 
 ghost use mathlib.Core.Path.{_≡_};
-ghost use Prim.Native.Nat.{_+_, _%_, _<_, min};
-
-// The lesser of two.
-pub fn least(a: usize, b: usize) -> usize
-    ensures { λ r. ⌜ r ≡ min a b ⌝ }
-{
-    if b < a {
-        return b;
-    }
-    a
-}
+ghost use Prim.Native.Nat.{_+_, _%_, _<_};
 
 // x mod m, where x is below 2m: no division.
 pub fn wrapped(x: u32, m: u32) -> u32

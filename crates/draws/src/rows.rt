@@ -1,9 +1,9 @@
 // Opening rows: a whole closed table.
 
-use super::numbers::least;
 use super::numbers::wrapped;
 use super::step::advance;
 use super::step::drawn;
+use laws::least;
 ghost use mathlib.Core.Path.{_≡_};
 ghost use mathlib.Core.List.{[]};
 ghost use Prim.Native.Nat.{_+_, _-_, _*_, _≤_, _<_, min};

@@ -29,7 +29,7 @@ use Rattle.items.specs.Held.{items-measured, wholes-measured}
 use Rattle.pool.specs.Says.{Distinct}
 use Rattle.pool.specs.Free.{all-mem, apart-distinct, candidates-free}
 use Rattle.prune.specs.Says.{Measurable}
-use Rattle.greedy.proofs.Counting.{count-none}
+use Rattle.marks.specs.Counting.{count-none}
 use Rattle.pooling.specs.Regions.{poolOf, distsOf, Holding, Grown, visits, pooledIds}
 use Rattle.pooling.proofs.Adding.{pooled-few}
 use Rattle.pooling.proofs.Lending.{dists-length, room-kept}

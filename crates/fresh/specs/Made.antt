@@ -32,7 +32,7 @@ pub record Given (n dim width : ℕ) (params : Params) (vectors wide : List ℕ)
 
 -- the scratch between two nodes, of which p are done: no pool mark is above p
 pub record Between (n beam epoch p : ℕ) (words : List ℕ) (floats : List Float) : Type 0 where
-  pub room : Room n n epoch beam words floats
+  pub room : Room n epoch beam words floats
   pub word-room : 6 * n + 32768 ≤ length words
   pub float-room : 4 * n + 1024 ≤ length floats
   pub marks : (i : ℕ) → i < n → getD words (4 * n + 256 + i) 0 ≤ p

@@ -96,7 +96,6 @@ fn node_pool(
         dim,
         width,
         beam: params.beam,
-        log: n,
     };
     let stamp = (p + 1) as u32;
     collect_pool(

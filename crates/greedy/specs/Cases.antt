@@ -1,63 +1,84 @@
 -- The definition of greedy, case by case, in the words of the code's tests.
 use mathlib.Core.Path.{_≡_, refl, sym, ap, _∙_}
 use mathlib.Core.Bool.{Bool, true, false, _||_, _&&_, not, cond}
-use mathlib.Core.List.{List, [], _∷_, _++_, map}
-use Prim.Native.Nat.{ℕ, zero, suc, _+_, _*_, _-_, _≤_, _<_}
-use native.Mathlib.Numerals.{add-one}
-use native.Mathlib.Omega.{arith}
+use mathlib.Core.List.{List, [], _∷_, _++_, map, append-assoc, append-nil}
+use Prim.Native.Nat.{ℕ, zero, suc}
 use borrow.Author.Tests.{eq-eqb, ne-eqb}
-use lib.Dec.{eqb}
-use lib.ListN.{length, getD, take}
-use lib.Seq.{take-suc}
+use lib.Dec.{eqb, ltb}
+use lib.ListN.{length}
 use Rattle.definition.specs.Lists.{isIn}
 use Rattle.definition.specs.Tables.{pad}
-use Rattle.definition.specs.Beam.{Item, item, nobody, insert, insertCapped, best, withoutBest}
+use Rattle.definition.specs.Beam.{Item, item, insert, insertCapped, best, beatsWorst}
 use Rattle.definition.specs.Greedy.{State, visitedIds, begin, admitted, meet, skipped, look, expand, popped, step, stops, filled, steps, greedy}
-use lib.Ieee.{Float}
-use Rattle.laws.specs.Parts.{part}
-use Rattle.laws.specs.Words.{padding}
-use Rattle.greedy.specs.Scratch.{Logged, Walks}
+use Rattle.marks.specs.Marked.{news}
+use Rattle.greedy.specs.Scratch.{meets}
 
-abbrev pub idsOf : List Item → List ℕ
-idsOf l = map (λ (c : Item). c .id) l
+pub map-more : {A B : Type 0} (f : A → B) (a b : List A) → map f (a ++ b) ≡ map f a ++ map f b
+map-more f [] b = refl
+map-more {A} {B} f (x ∷ xs) b = ap (λ (z : List B). f x ∷ z) (map-more f xs b)
 
--- ---- one word of a row
-module _ (d : ℕ → ℕ) (beam : ℕ) (s : State) (w : ℕ) where
-  pub look-pad : w ≡ padding → look d beam s w ≡ s
-  unfolding look skipped pad
-  look-pad e = rw (eq-eqb w padding e) refl
+-- ---- one entry that is met
+module _ (beam : ℕ) (x : Item) (st : State) where
+  pub admitted-is : admitted beam x st ≡ (ltb (length (st .work)) beam || beatsWorst x (st .work))
+  unfolding admitted
+  admitted-is = refl
 
-  pub look-seen : isIn w (idsOf (s .visited)) ≡ true → look d beam s w ≡ s
-  unfolding look skipped visitedIds
-  look-seen e = rw e (or-true (eqb w pad))
+  pub meet-frontier : (t : Bool) → admitted beam x st ≡ t → meet beam x st .frontier ≡ cond t (insert x (st .frontier)) (st .frontier)
+  unfolding meet
+  meet-frontier t e = rw e refl
+
+  pub meet-work : (t : Bool) → admitted beam x st ≡ t → meet beam x st .work ≡ cond t (insertCapped beam x (st .work)) (st .work)
+  unfolding meet
+  meet-work t e = rw e refl
+
+  pub meet-visited : meet beam x st .visited ≡ st .visited ++ (x ∷ [])
+  unfolding meet
+  meet-visited = refl
+
+-- ---- entries that are met, one after another
+pub meets-none : (beam : ℕ) (st : State) → meets beam st [] ≡ st
+unfolding meets
+meets-none beam st = refl
+
+pub meets-one : (beam : ℕ) (st : State) (x : Item) → meets beam st (x ∷ []) ≡ meet beam x st
+unfolding meets
+meets-one beam st x = refl
+
+pub meets-more : (beam : ℕ) (st : State) (a b : List Item) → meets beam st (a ++ b) ≡ meets beam (meets beam st a) b
+unfolding meets
+meets-more beam st [] b = refl
+meets-more beam st (x ∷ xs) b = meets-more beam (meet beam x st) xs b
+
+pub meets-visited : (beam : ℕ) (st : State) (l : List Item) → meets beam st l .visited ≡ st .visited ++ l
+unfolding meets
+meets-visited beam st [] = sym (append-nil (st .visited))
+meets-visited beam st (x ∷ xs) =
+    meets-visited beam (meet beam x st) xs ∙ ap (λ (z : List Item). z ++ xs) (meet-visited beam x st) ∙ append-assoc (st .visited) (x ∷ []) xs
+
+-- ---- a row: its new ids are met, in order
+abbrev pub measured : (ℕ → ℕ) → List ℕ → List Item
+measured d l = map (λ (i : ℕ). item (d i) i) l
+
+pub measured-ids : (d : ℕ → ℕ) (l : List ℕ) → map (λ (c : Item). c .id) (measured d l) ≡ l
+measured-ids d [] = refl
+measured-ids d (i ∷ is) = ap (λ (z : List ℕ). i ∷ z) (measured-ids d is)
+
+module _ (d : ℕ → ℕ) (beam : ℕ) where
+  meet-ids : (st : State) (w : ℕ) → visitedIds (meet beam (item (d w) w) st) ≡ visitedIds st ++ (w ∷ [])
+  unfolding visitedIds
+  meet-ids st w = ap (map (λ (c : Item). c .id)) (meet-visited beam (item (d w) w) st) ∙ map-more (λ (c : Item). c .id) (st .visited) (item (d w) w ∷ [])
+
+  pub expand-meets : (row : List ℕ) (st : State) → expand d beam st row ≡ meets beam st (measured d (news (visitedIds st) row))
+  unfolding expand meets news look skipped
+  expand-meets [] st = refl
+  expand-meets (w ∷ ws) st = go (eqb w pad || isIn w (visitedIds st)) (expand-meets ws st) (expand-meets ws (meet beam (item (d w) w) st))
     where
-      or-true : (t : Bool) → cond (t || true) s (meet beam (item (d w) w) s) ≡ s
-      or-true true = refl
-      or-true false = refl
-
-  module _ (real : w ≡ padding → ⊥) (new : isIn w (idsOf (s .visited)) ≡ false) where
-    pub look-in : admitted beam (item (d w) w) s ≡ true
-        → look d beam s w ≡ record { frontier = insert (item (d w) w) (s .frontier); work = insertCapped beam (item (d w) w) (s .work); visited = s .visited ++ (item (d w) w ∷ []); expanded = s .expanded }
-    unfolding look skipped visitedIds pad meet
-    look-in a = rw (ne-eqb w padding real, new, a) refl
-
-    pub look-out : admitted beam (item (d w) w) s ≡ false
-        → look d beam s w ≡ record { frontier = s .frontier; work = s .work; visited = s .visited ++ (item (d w) w ∷ []); expanded = s .expanded }
-    unfolding look skipped visitedIds pad meet
-    look-out a = rw (ne-eqb w padding real, new, a) refl
-
--- ---- a row
-pub expand-none : (d : ℕ → ℕ) (beam : ℕ) (s : State) → s ≡ expand d beam s []
-unfolding expand
-expand-none d beam s = refl
-
-expand-snoc : (d : ℕ → ℕ) (beam : ℕ) (l : List ℕ) (x : ℕ) (s : State) → expand d beam s (l ++ (x ∷ [])) ≡ look d beam (expand d beam s l) x
-unfolding expand
-expand-snoc d beam [] x s = refl
-expand-snoc d beam (y ∷ ys) x s = expand-snoc d beam ys x (look d beam s y)
-
-pub expand-more : (d : ℕ → ℕ) (beam : ℕ) (row : List ℕ) (k : ℕ) (s : State) → k < length row → expand d beam s (take (k + 1) row) ≡ look d beam (expand d beam s (take k row)) (getD row k 0)
-expand-more d beam row k s h = rw (add-one, take-suc row k 0 h) (expand-snoc d beam (take k row) (getD row k 0) s)
+      go : (t : Bool) → expand d beam st ws ≡ meets beam st (measured d (news (visitedIds st) ws))
+          → expand d beam (meet beam (item (d w) w) st) ws ≡ meets beam (meet beam (item (d w) w) st) (measured d (news (visitedIds (meet beam (item (d w) w) st)) ws))
+          → expand d beam (cond t st (meet beam (item (d w) w) st)) ws
+          ≡ meets beam st (measured d (cond t (news (visitedIds st) ws) (w ∷ news (visitedIds st ++ (w ∷ [])) ws)))
+      go true old new = old
+      go false old new = new ∙ ap (λ (l : List ℕ). meets beam (meet beam (item (d w) w) st) (measured d (news l ws))) (meet-ids st w)
 
 -- ---- the steps
 pub steps-stop : (d : ℕ → ℕ) (rows : ℕ → List ℕ) (beam k : ℕ) (s : State) → stops beam s ≡ true → steps d rows beam k s ≡ s
@@ -77,14 +98,6 @@ pub stops-filled : (beam : ℕ) (s : State) → (length (s .frontier) ≡ 0 → 
 unfolding stops
 stops-filled beam s e = rw (ne-eqb (length (s .frontier)) 0 e) refl
 
-pub best-at : (l : List Item) (f : ℕ) → length l ≡ f → best l ≡ getD l (f - 1) nobody
-unfolding best
-best-at l f e = ap (λ (k : ℕ). getD l (k - 1) nobody) e
-
-pub without-is : (l : List Item) (f : ℕ) → length l ≡ f → withoutBest l ≡ take (f - 1) l
-unfolding withoutBest
-without-is l f e = ap (λ (k : ℕ). take (k - 1) l) e
-
 pub step-is : (d : ℕ → ℕ) (rows : ℕ → List ℕ) (beam : ℕ) (s : State) (id : ℕ) → id ≡ best (s .frontier) .id → step d rows beam s ≡ expand d beam (popped s) (rows id)
 unfolding step
 step-is d rows beam s id e = ap (λ (i : ℕ). expand d beam (popped s) (rows i)) (sym e)
@@ -92,8 +105,3 @@ step-is d rows beam s id e = ap (λ (i : ℕ). expand d beam (popped s) (rows i)
 pub greedy-is : (d : ℕ → ℕ) (rows : ℕ → List ℕ) (n beam start : ℕ) → greedy d rows n beam start ≡ steps d rows beam n (begin d beam start)
 unfolding greedy
 greedy-is d rows n beam start = refl
-
--- ---- with a log of n all that was visited is recorded
-pub logged-all : (n epoch beam : ℕ) (words₀ : List ℕ) (floats₀ : List Float) (words : List ℕ) (floats : List Float) (e v f w : ℕ) (st : State) → Walks n n epoch beam words₀ floats₀ words floats e v f w st
-    → Logged (part (2 * n + 256) (2 * n + 256 + n) words) (part (n + 256) (n + 256 + n) floats) v (st .visited)
-logged-all n epoch beam words₀ floats₀ words floats e v f w st k = k .holds .visited-is (k .visited-le)

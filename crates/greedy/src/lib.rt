@@ -1,81 +1,65 @@
-// Parts 3 and 4. Marks, and the greedy walk from a start over the rows of a flat table of any width.
-// One walk serves search and build: what it visits is recorded only as far as `log` reaches, 0 in a search and n in a build.
+// Part 4. The greedy walk from a start over the rows of a flat table of any width; one walk serves search and build.
 //
-//     words:   marks 0 .. n | frontier ids n .. 2n | work ids 2n .. 2n + 256 | visited ids 2n + 256 .. 2n + 256 + log
-//     floats:  frontier 0 .. n | work n .. n + 256 | visited n + 256 .. n + 256 + log
+//     words:   marks 0 .. n | visited ids n .. 2n | work 2n .. 2n + 256
+//     floats:  visited 0 .. n | work n .. n + 256
 //
-// The visited come last, so that the room of a search is the front of that of a build.
+// Work and frontier are one beam. What the frontier has and work has not was cut from a full work: it is no nearer than the worst, so the walk ends before
+// it is reached. So work alone is kept, each id doubled, and one more while its row is not yet walked: that order is the order of the ids.
 
+use beam::Placed;
 ghost use mathlib.Core.Path.{_≡_};
-ghost use Prim.Native.Nat.{ℕ, _+_, _-_, _*_, _≤_, _<_};
-ghost use lib.ListN.{length, take, drop, getD};
+ghost use mathlib.Core.List.{[], _∷_, _++_, map};
+ghost use Prim.Native.Nat.{ℕ, _+_, _-_, _*_, _/_, _≤_, _<_};
+ghost use lib.ListN.{length, take, drop, getD, set};
 ghost use Rattle.definition.specs.Metric.{fromQuery};
 ghost use Rattle.definition.specs.Tables.{row};
-ghost use Rattle.definition.specs.Greedy.{look, expand, steps, greedy};
+ghost use Rattle.definition.specs.Greedy.{expand, steps, greedy};
+ghost use Rattle.laws.specs.Parts.{part};
 ghost use Rattle.laws.specs.Words.{Row};
-ghost use Rattle.greedy.specs.Scratch.{admitsF, stopsF, Measures, Ready, Live, Pushed, Noted, Moves, Marks, Fresh, Empty, Collected, Room, Walks};
+ghost use Rattle.greedy.specs.Scratch.{admitsF, haltsF, Measures, Ready, Live, Pushed, Met, Moves, Next, Arrived, Reaches, Empty, Collected, Room, Walks};
 
-// What a walk goes by: n entries of dim bytes, rows of width words, and the places for visited entries.
+// What a walk goes by: n entries of dim bytes, and rows of width words.
 pub struct Plan {
     pub n: usize,
     pub dim: usize,
     pub width: usize,
     pub beam: usize,
-    pub log: usize,
 }
 
-// How many items each list has.
+// How many were visited, how many the frontier has, how many work has, and how many of these, the best, are walked.
 pub struct Counts {
     pub visited: usize,
     pub frontier: usize,
     pub work: usize,
+    pub done: usize,
 }
 
-// An item into both beams of the scratch.
+// An item into work, its row not yet walked.
 fn push(
     words: &mut [u32],
     floats: &mut [f32],
     n: usize,
-    flen: usize,
-    wlen: usize,
-    cap: usize,
+    beam: usize,
+    w: usize,
     id: u32,
     dist: f32,
-) -> usize
+) -> Placed
     requires { ⌜ (n ≤ 65536) × (2 * n + 256 ≤ length (now words)) × (n + 256 ≤ length (now floats)) ⌝ }
-    requires { ⌜ (flen < n) × (wlen ≤ cap) × (cap ≤ 256) ⌝ }
-    ensures { λ r. ⌜ Pushed (now (words .entry)) (now (floats .entry)) (now (words .exit)) (now (floats .exit)) n flen wlen cap id dist r ⌝ }
+    requires { ⌜ (w ≤ beam) × (beam ≤ 256) × (id < n) ⌝ }
+    ensures { λ r. ⌜ Pushed n beam (now (words .entry)) (now (floats .entry)) (now (words .exit)) (now (floats .exit)) w id dist (r .len) (r .near) ⌝ }
 {
-    let w = 2 * n;
-    let we = w + 256;
-    let fe = n + 256;
-    beam::insert(&mut words[n..w], &mut floats[0..n], flen, id, dist);
-    beam::insert_capped(&mut words[w..we], &mut floats[n..fe], wlen, cap, id, dist)
-}
-
-// Marks an entry, the v-th visited, and records it if the log reaches so far.
-fn note(
-    words: &mut [u32],
-    floats: &mut [f32],
-    n: usize,
-    log: usize,
-    epoch: u32,
-    v: usize,
-    id: u32,
-    dist: f32,
-)
-    requires { ⌜ (n ≤ 65536) × (2 * n + 256 + log ≤ length (now words)) × (n + 256 + log ≤ length (now floats)) × (id < n) ⌝ }
-    ensures { λ _. ⌜ Noted n log epoch (now (words .entry)) (now (floats .entry)) (now (words .exit)) (now (floats .exit)) v id dist ⌝ }
-{
-    let i = id as usize;
-    words[i] = epoch;
-    if v < log {
-        let a = n + 256;
-        let af = a + v;
-        let aw = n + af;
-        words[aw] = id;
-        floats[af] = dist;
-    }
+    let at = 2 * n;
+    let end = at + 256;
+    let fend = n + 256;
+    let code = 2 * id + 1;
+    beam::insert_capped(
+        &mut words[at..end],
+        &mut floats[n..fend],
+        w,
+        beam,
+        code,
+        dist,
+    )
 }
 
 // Work is below beam, or the distance is strictly below the worst's.
@@ -92,49 +76,63 @@ fn admits(work: &[f32], len: usize, beam: usize, dist: f32) -> bool
     false
 }
 
-// One id of a row: skipped where it is marked; else marked, recorded, and put into both beams where it is admitted.
-fn look(
+// A newly visited entry, put into work where it is admitted.
+fn meet(
     words: &mut [u32],
     floats: &mut [f32],
-    vectors: &[u8],
-    query: &[u8],
-    p: Plan,
-    epoch: u32,
+    n: usize,
+    beam: usize,
     c: Counts,
     id: u32,
+    dist: f32,
 ) -> Counts
-    requires { ⌜ Ready (p .n) (p .log) epoch (p .beam) (now words) (now floats) (c .visited) (c .frontier) (c .work) ⌝ }
-    requires { ⌜ Measures (p .n) (p .dim) (now vectors) (now query) ⌝ }
-    requires { ⌜ id < p .n ⌝ }
-    ensures { λ r. ⌜ Moves (p .n) (p .log) epoch (p .beam) (now (words .entry)) (now (floats .entry)) (c .visited) (c .frontier) (c .work) (now (words .exit)) (now (floats .exit)) (r .visited) (r .frontier) (r .work) (λ st. look (fromQuery (p .dim) (now (vectors .entry)) (now (query .entry))) (p .beam) st id) ⌝ }
+    requires { ⌜ (n ≤ 65536) × (2 * n + 256 ≤ length (now words)) × (n + 256 ≤ length (now floats)) ⌝ }
+    requires { ⌜ (c .work ≤ beam) × (c .done ≤ c .work) × (beam ≤ 256) × (id < n) × (c .frontier < 65536) ⌝ }
+    ensures { λ r. ⌜ Met n beam (now (words .entry)) (now (floats .entry)) (c .frontier) (c .work) (c .done) (now (words .exit)) (now (floats .exit)) (r .frontier) (r .work) (r .done) (id ∷ []) (dist ∷ []) ⌝ }
+    ensures { λ r. ⌜ r .visited ≡ c .visited ⌝ }
 {
-    let i = id as usize;
-    if words[i] == epoch {
-        return c;
-    }
-    let n = p.n;
-    let v = c.visited;
-    let f = c.frontier;
-    let w = c.work;
-    let dist = metric::from_query(p.dim, vectors, query, i);
-    note(words, floats, n, p.log, epoch, v, id, dist);
-    let fe = n + 256;
-    if admits(&floats[n..fe], w, p.beam, dist) {
-        let more = push(words, floats, n, f, w, p.beam, id, dist);
+    let fend = n + 256;
+    if admits(&floats[n..fend], c.work, beam, dist) {
+        let p = push(words, floats, n, beam, c.work, id, dist);
         return Counts {
-            visited: v + 1,
-            frontier: f + 1,
-            work: more,
+            visited: c.visited,
+            frontier: c.frontier + 1,
+            work: p.len,
+            done: laws::least(p.near, c.done),
         };
     }
-    Counts {
-        visited: v + 1,
-        frontier: f,
-        work: w,
-    }
+    c
 }
 
-// A row, in order; padding is skipped wherever it stands.
+// The entries visited from place `from` on, in order.
+fn meet_each(
+    words: &mut [u32],
+    floats: &mut [f32],
+    n: usize,
+    beam: usize,
+    from: usize,
+    c: Counts,
+) -> Counts
+    requires { ⌜ (n ≤ 65536) × (2 * n + 256 ≤ length (now words)) × (n + 256 ≤ length (now floats)) ⌝ }
+    requires { ⌜ (c .work ≤ beam) × (c .done ≤ c .work) × (beam ≤ 256) ⌝ }
+    requires { ⌜ (from ≤ c .visited) × (c .visited ≤ n) × (c .frontier ≤ from) ⌝ }
+    requires { ⌜ ((j : ℕ) → from ≤ j → j < c .visited → getD (now words) (n + j) 0 < n) ⌝ }
+    ensures { λ r. ⌜ Met n beam (now (words .entry)) (now (floats .entry)) (c .frontier) (c .work) (c .done) (now (words .exit)) (now (floats .exit)) (r .frontier) (r .work) (r .done) (part (n + from) (n + c .visited) (now (words .entry))) (part from (c .visited) (now (floats .entry))) ⌝ }
+    ensures { λ r. ⌜ r .visited ≡ c .visited ⌝ }
+{
+    let mut s = c;
+    let mut j = from;
+    while j < c.visited {
+        let at = n + j;
+        let id = words[at];
+        let dist = floats[j];
+        s = meet(words, floats, n, beam, s, id, dist);
+        j += 1;
+    }
+    s
+}
+
+// A row: its new ids are marked, then measured, then met, in order.
 fn expand(
     words: &mut [u32],
     floats: &mut [f32],
@@ -145,47 +143,106 @@ fn expand(
     epoch: u32,
     c: Counts,
 ) -> Counts
-    requires { ⌜ Ready (p .n) (p .log) epoch (p .beam) (now words) (now floats) (c .visited) (c .frontier) (c .work) ⌝ }
+    requires { ⌜ Ready (p .n) epoch (p .beam) (now words) (now floats) (c .visited) (c .frontier) (c .work) (c .done) ⌝ }
     requires { ⌜ Measures (p .n) (p .dim) (now vectors) (now query) ⌝ }
     requires { ⌜ Row (p .n) (now ids) ⌝ }
-    ensures { λ r. ⌜ Moves (p .n) (p .log) epoch (p .beam) (now (words .entry)) (now (floats .entry)) (c .visited) (c .frontier) (c .work) (now (words .exit)) (now (floats .exit)) (r .visited) (r .frontier) (r .work) (λ st. expand (fromQuery (p .dim) (now (vectors .entry)) (now (query .entry))) (p .beam) st (now (ids .entry))) ⌝ }
+    ensures { λ r. ⌜ Moves (p .n) epoch (p .beam) (now (words .entry)) (now (floats .entry)) (c .visited) (c .frontier) (c .work) (c .done) (now (words .exit)) (now (floats .exit)) (r .visited) (r .frontier) (r .work) (r .done) (λ st. expand (fromQuery (p .dim) (now (vectors .entry)) (now (query .entry))) (p .beam) st (now (ids .entry))) ⌝ }
 {
-    let mut s = c;
-    let mut k = 0;
-    while k < ids.len() {
-        let id = ids[k];
-        if id != 0xFFFFFFFF {
-            s = look(words, floats, vectors, query, p, epoch, s, id);
+    let n = p.n;
+    let from = c.visited;
+    let to = marks::gather(words, n, epoch, from, ids);
+    let at = n + from;
+    let end = n + to;
+    metric::from_query_each(
+        p.dim,
+        vectors,
+        query,
+        &words[at..end],
+        &mut floats[from..to],
+    );
+    let s = Counts {
+        visited: to,
+        frontier: c.frontier,
+        work: c.work,
+        done: c.done,
+    };
+    meet_each(words, floats, n, p.beam, from, s)
+}
+
+// How many of the best are walked, once those that were are passed: from `done` on, up to one that is not.
+fn next(work: &[u32], w: usize, done: usize) -> usize
+    requires { ⌜ (w ≤ length (now work)) × (done ≤ w) ⌝ }
+    ensures { λ r. ⌜ Next (now (work .entry)) w done r ⌝ }
+{
+    let mut d = done;
+    while d < w {
+        let last = w - 1;
+        let at = last - d;
+        if work[at] % 2 != 0 {
+            break;
         }
-        k += 1;
+        d += 1;
     }
-    s
+    d
 }
 
-fn wide(x: u32) -> usize
-    ensures { λ r. ⌜ r ≡ x ⌝ }
-{
-    x as usize
-}
-
-// Work has at least beam items, and a worst, and the best is not strictly nearer than it.
-fn stops(work: &[f32], len: usize, beam: usize, near: f32) -> bool
+// All of work is walked; or work has at least beam items, and the best that is not walked is not strictly nearer than the worst.
+fn halts(work: &[f32], len: usize, beam: usize, done: usize) -> bool
     requires { ⌜ len ≤ length (now work) ⌝ }
-    ensures { λ r. ⌜ r ≡ stopsF (now (work .entry)) len beam near ⌝ }
+    ensures { λ r. ⌜ r ≡ haltsF (now (work .entry)) len beam done ⌝ }
 {
+    if len <= done {
+        return true;
+    }
     if len < beam {
         return false;
     }
-    if len == 0 {
-        return false;
-    }
-    if near < work[0] {
+    let last = len - 1;
+    let at = last - done;
+    if work[at] < work[0] {
         return false;
     }
     true
 }
 
-// While the frontier has items: stop, or pop the best and walk its row.
+// Where the best that is not walked stands: it is walked from now on. Returns its id.
+fn pop(words: &mut [u32], n: usize, w: usize, done: usize) -> u32
+    requires { ⌜ (n ≤ 65536) × (2 * n + w ≤ length (now words)) × (done < w) × (w ≤ 256) ⌝ }
+    requires { ⌜ 0 < getD (now words) (2 * n + (w - 1 - done)) 0 ⌝ }
+    ensures { λ r. ⌜ (r ≡ getD (now (words .entry)) (2 * n + (w - 1 - done)) 0 / 2) × (now (words .exit) ≡ set (now (words .entry)) (2 * n + (w - 1 - done)) (getD (now (words .entry)) (2 * n + (w - 1 - done)) 0 - 1)) ⌝ }
+{
+    let last = w - 1;
+    let at = 2 * n + (last - done);
+    let code = words[at];
+    words[at] = code - 1;
+    code / 2
+}
+
+// The row of one entry.
+fn step(
+    words: &mut [u32],
+    floats: &mut [f32],
+    vectors: &[u8],
+    query: &[u8],
+    table: &[u32],
+    p: Plan,
+    epoch: u32,
+    id: u32,
+    c: Counts,
+) -> Counts
+    requires { ⌜ Ready (p .n) epoch (p .beam) (now words) (now floats) (c .visited) (c .frontier) (c .work) (c .done) ⌝ }
+    requires { ⌜ Measures (p .n) (p .dim) (now vectors) (now query) ⌝ }
+    requires { ⌜ (length (now table) ≡ p .n * p .width) × (p .width ≤ 128) × (id < p .n) ⌝ }
+    requires { ⌜ Row (p .n) (now table) ⌝ }
+    ensures { λ r. ⌜ Moves (p .n) epoch (p .beam) (now (words .entry)) (now (floats .entry)) (c .visited) (c .frontier) (c .work) (c .done) (now (words .exit)) (now (floats .exit)) (r .visited) (r .frontier) (r .work) (r .done) (λ st. expand (fromQuery (p .dim) (now (vectors .entry)) (now (query .entry))) (p .beam) st (row (p .width) (now (table .entry)) id)) ⌝ }
+{
+    let width = p.width;
+    let from = id as usize * width;
+    let to = from + width;
+    expand(words, floats, vectors, query, &table[from..to], p, epoch, c)
+}
+
+// While the frontier has items: stop, or walk the row of the best.
 fn walk(
     words: &mut [u32],
     floats: &mut [f32],
@@ -196,49 +253,82 @@ fn walk(
     epoch: u32,
     c: Counts,
 ) -> Counts
-    requires { ⌜ Ready (p .n) (p .log) epoch (p .beam) (now words) (now floats) (c .visited) (c .frontier) (c .work) ⌝ }
-    requires { ⌜ Live (p .n) (p .log) epoch (now words) (now floats) (c .visited) (c .frontier) (c .work) ⌝ }
+    requires { ⌜ Ready (p .n) epoch (p .beam) (now words) (now floats) (c .visited) (c .frontier) (c .work) (c .done) ⌝ }
+    requires { ⌜ Live (p .n) epoch (p .beam) (now words) (now floats) (c .visited) (c .frontier) (c .work) (c .done) ⌝ }
     requires { ⌜ Measures (p .n) (p .dim) (now vectors) (now query) ⌝ }
     requires { ⌜ (length (now table) ≡ p .n * p .width) × (p .width ≤ 128) ⌝ }
     requires { ⌜ Row (p .n) (now table) ⌝ }
-    ensures { λ r. ⌜ Moves (p .n) (p .log) epoch (p .beam) (now (words .entry)) (now (floats .entry)) (c .visited) (c .frontier) (c .work) (now (words .exit)) (now (floats .exit)) (r .visited) (r .frontier) (r .work) (λ st. steps (fromQuery (p .dim) (now (vectors .entry)) (now (query .entry))) (row (p .width) (now (table .entry))) (p .beam) (p .n) st) ⌝ }
+    ensures { λ r. ⌜ Moves (p .n) epoch (p .beam) (now (words .entry)) (now (floats .entry)) (c .visited) (c .frontier) (c .work) (c .done) (now (words .exit)) (now (floats .exit)) (r .visited) (r .frontier) (r .work) (r .done) (λ st. steps (fromQuery (p .dim) (now (vectors .entry)) (now (query .entry))) (row (p .width) (now (table .entry))) (p .beam) (p .n) st) ⌝ }
 {
     let mut s = c;
     while 0 < s.frontier {
         let n = p.n;
-        let b = s.frontier - 1;
-        let v = s.visited;
-        let w = s.work;
+        let wb = 2 * n;
+        let we = wb + 256;
         let fe = n + 256;
-        let at = n + b;
-        let id = wide(words[at]);
-        let near = floats[b];
-        if stops(&floats[n..fe], w, p.beam, near) {
+        let d = next(&words[wb..we], s.work, s.done);
+        if halts(&floats[n..fe], s.work, p.beam, d) {
             break;
         }
-        let width = p.width;
-        let from = id * width;
-        let to = from + width;
+        let id = pop(words, n, s.work, d);
         let t = Counts {
-            visited: v,
-            frontier: b,
-            work: w,
+            visited: s.visited,
+            frontier: s.frontier - 1,
+            work: s.work,
+            done: d + 1,
         };
-        s = expand(words, floats, vectors, query, &table[from..to], p, epoch, t);
+        s = step(words, floats, vectors, query, table, p, epoch, id, t);
     }
     s
 }
 
-// The epoch of the next walk: one more with wrap; at 0 the marks are cleared and it is 1.
-fn next_epoch(words: &mut [u32], n: usize, epoch: u32) -> u32
-    requires { ⌜ (n ≤ length (now words)) × Marks n (now words) epoch ⌝ }
-    ensures { λ r. ⌜ Fresh n (now (words .entry)) (now (words .exit)) epoch r ⌝ }
+// From the start, which is visited and not yet met. With beam 0 work takes nothing in, and the start's row is walked all the same.
+fn from_start(
+    words: &mut [u32],
+    floats: &mut [f32],
+    vectors: &[u8],
+    query: &[u8],
+    table: &[u32],
+    p: Plan,
+    epoch: u32,
+    start: u32,
+    dist: f32,
+) -> Counts
+    requires { ⌜ Arrived (p .n) epoch (p .beam) (now words) (now floats) (fromQuery (p .dim) (now vectors) (now query)) start dist ⌝ }
+    requires { ⌜ Measures (p .n) (p .dim) (now vectors) (now query) ⌝ }
+    requires { ⌜ (length (now table) ≡ p .n * p .width) × (p .width ≤ 128) × (start < p .n) ⌝ }
+    requires { ⌜ Row (p .n) (now table) ⌝ }
+    ensures { λ r. ⌜ Reaches (p .n) epoch (p .beam) (now (words .entry)) (now (floats .entry)) (now (words .exit)) (now (floats .exit)) (r .visited) (r .frontier) (r .work) (r .done) (greedy (fromQuery (p .dim) (now (vectors .entry)) (now (query .entry))) (row (p .width) (now (table .entry))) (p .n) (p .beam) start) ⌝ }
 {
-    if epoch == 0xFFFFFFFF {
-        laws::clear_words(&mut words[0..n]);
-        return 1;
+    if p.beam == 0 {
+        let c = Counts {
+            visited: 1,
+            frontier: 0,
+            work: 0,
+            done: 0,
+        };
+        return step(words, floats, vectors, query, table, p, epoch, start, c);
     }
-    epoch + 1
+    let at = push(words, floats, p.n, p.beam, 0, start, dist);
+    let c = Counts {
+        visited: 1,
+        frontier: 1,
+        work: at.len,
+        done: 0,
+    };
+    walk(words, floats, vectors, query, table, p, epoch, c)
+}
+
+// Codes become ids again.
+fn plain(work: &mut [u32], w: usize)
+    requires { ⌜ w ≤ length (now work) ⌝ }
+    ensures { λ _. ⌜ now (work .exit) ≡ map (λ (c : ℕ). c / 2) (take w (now (work .entry))) ++ drop w (now (work .entry)) ⌝ }
+{
+    let mut i = 0;
+    while i < w {
+        work[i] = work[i] / 2;
+        i += 1;
+    }
 }
 
 // From the start, all that a walk visits and keeps, at an epoch that no mark has.
@@ -252,30 +342,28 @@ fn collect(
     epoch: u32,
     start: u32,
 ) -> Counts
-    requires { ⌜ Empty (p .n) (p .log) epoch (p .beam) (now words) (now floats) ⌝ }
+    requires { ⌜ Empty (p .n) epoch (p .beam) (now words) (now floats) ⌝ }
     requires { ⌜ Measures (p .n) (p .dim) (now vectors) (now query) ⌝ }
     requires { ⌜ (length (now table) ≡ p .n * p .width) × (p .width ≤ 128) × (start < p .n) ⌝ }
     requires { ⌜ Row (p .n) (now table) ⌝ }
-    ensures { λ r. ⌜ Collected (p .n) (p .log) epoch (p .beam) (now (words .entry)) (now (floats .entry)) (now (words .exit)) (now (floats .exit)) (r .visited) (r .frontier) (r .work) (greedy (fromQuery (p .dim) (now (vectors .entry)) (now (query .entry))) (row (p .width) (now (table .entry))) (p .n) (p .beam) start) ⌝ }
+    ensures { λ r. ⌜ Collected (p .n) epoch (p .beam) (now (words .entry)) (now (floats .entry)) (now (words .exit)) (now (floats .exit)) (r .visited) (r .work) (greedy (fromQuery (p .dim) (now (vectors .entry)) (now (query .entry))) (row (p .width) (now (table .entry))) (p .n) (p .beam) start) ⌝ }
 {
-    let i = start as usize;
-    let dist = metric::from_query(p.dim, vectors, query, i);
-    note(words, floats, p.n, p.log, epoch, 0, start, dist);
-    let w = push(words, floats, p.n, 0, 0, p.beam, start, dist);
-    let c = Counts {
-        visited: 1,
-        frontier: 1,
-        work: w,
-    };
-    walk(words, floats, vectors, query, table, p, epoch, c)
+    let n = p.n;
+    let dist = metric::from_query(p.dim, vectors, query, start as usize);
+    marks::note(words, n, epoch, 0, start);
+    floats[0] = dist;
+    let s = from_start(words, floats, vectors, query, table, p, epoch, start, dist);
+    let at = 2 * n;
+    let end = at + 256;
+    plain(&mut words[at..end], s.work);
+    s
 }
 
-// What a walk leaves: the epoch and how many items each list has.
+// What a walk leaves: the epoch, and how many items the two lists have.
 pub struct Walked {
     pub epoch: u32,
     pub visited: usize,
     pub work: usize,
-    pub frontier: usize,
 }
 
 // A whole walk, on a scratch that earlier walks used.
@@ -289,18 +377,17 @@ pub fn greedy(
     epoch: u32,
     start: u32,
 ) -> Walked
-    requires { ⌜ Room (p .n) (p .log) epoch (p .beam) (now words) (now floats) ⌝ }
+    requires { ⌜ Room (p .n) epoch (p .beam) (now words) (now floats) ⌝ }
     requires { ⌜ Measures (p .n) (p .dim) (now vectors) (now query) ⌝ }
     requires { ⌜ (length (now table) ≡ p .n * p .width) × (p .width ≤ 128) × (start < p .n) ⌝ }
     requires { ⌜ Row (p .n) (now table) ⌝ }
-    ensures { λ r. ⌜ Walks (p .n) (p .log) epoch (p .beam) (now (words .entry)) (now (floats .entry)) (now (words .exit)) (now (floats .exit)) (r .epoch) (r .visited) (r .frontier) (r .work) (greedy (fromQuery (p .dim) (now (vectors .entry)) (now (query .entry))) (row (p .width) (now (table .entry))) (p .n) (p .beam) start) ⌝ }
+    ensures { λ r. ⌜ Walks (p .n) epoch (p .beam) (now (words .entry)) (now (floats .entry)) (now (words .exit)) (now (floats .exit)) (r .epoch) (r .visited) (r .work) (greedy (fromQuery (p .dim) (now (vectors .entry)) (now (query .entry))) (row (p .width) (now (table .entry))) (p .n) (p .beam) start) ⌝ }
 {
-    let e = next_epoch(words, p.n, epoch);
+    let e = marks::next_epoch(words, p.n, epoch);
     let c = collect(words, floats, vectors, query, table, p, e, start);
     Walked {
         epoch: e,
         visited: c.visited,
         work: c.work,
-        frontier: c.frontier,
     }
 }

@@ -15,8 +15,8 @@ use Rattle.definition.specs.Lists.{isIn}
 use Rattle.definition.specs.Metric.{whole}
 use Rattle.laws.specs.Members.{isIn-mem, isIn-none, snoc-elim, same-eq, same-absorbs, same-join}
 use Rattle.laws.specs.Apart.{Apart, apart-snoc}
-use Rattle.greedy.specs.Scratch.{count}
-use Rattle.greedy.proofs.Counting.{count-le, count-lt, count-set, in-snoc}
+use Rattle.marks.specs.Marked.{count}
+use Rattle.marks.specs.Counting.{count-le, count-lt, count-set, in-snoc}
 use Rattle.pooling.specs.Pooled.{Pooled, Measured, Added}
 
 map-snoc : (f : ℕ → Float) (xs : List ℕ) (x : ℕ) → map f (xs ++ (x ∷ [])) ≡ map f xs ++ (f x ∷ [])

@@ -22,14 +22,14 @@ use Rattle.pooling.proofs.Lending.{words-lent, floats-lent, added-lent,
 use Rattle.pooling.proofs.Visits.{seen-known, seen-visits}
 
 -- ---- a walk, and what it visited
-module _ (n width beam : ℕ) (table : List ℕ) (d : ℕ → ℕ) (start : ℕ) (low : start < n) (rule : Row n table) (epoch : ℕ) (words₀ words : List ℕ) (floats₀ floats : List Float) (e v f w : ℕ)
-    (k : Walks n n epoch beam words₀ floats₀ words floats e v f w (greedy d (row width table) n beam start)) where
+module _ (n width beam : ℕ) (table : List ℕ) (d : ℕ → ℕ) (start : ℕ) (low : start < n) (rule : Row n table) (epoch : ℕ) (words₀ words : List ℕ) (floats₀ floats : List Float) (e v w : ℕ)
+    (k : Walks n epoch beam words₀ floats₀ words floats e v w (greedy d (row width table) n beam start)) where
   -- the walk leaves the pool alone
   pub pool-kept : poolOf n words ≡ poolOf n words₀
-  pool-kept = within-above 0 (2 * n + 256 + n) words₀ words (k .words-kept) (3 * n + 256) (5 * n + 256) (omega arith)
+  pool-kept = within-above 0 (2 * n + 256) words₀ words (k .words-kept) (3 * n + 256) (5 * n + 256) (omega arith)
 
   pub dists-kept : distsOf n floats ≡ distsOf n floats₀
-  dists-kept = within-above 0 (n + 256 + n) floats₀ floats (k .floats-kept) (2 * n + 256) (3 * n + 256) (omega arith)
+  dists-kept = within-above 0 (n + 256) floats₀ floats (k .floats-kept) (2 * n + 256) (3 * n + 256) (omega arith)
 
   pub grown-walk : (stamp len : ℕ) → 5 * n + 256 ≤ length words₀ → 3 * n + 256 ≤ length floats₀ → (words′ : List ℕ) (floats′ : List Float) (r : ℕ) → Filled n stamp words floats len words′ floats′ r v
       → Grown n beam stamp words₀ floats₀ len words′ floats′ e r (visits d width table n beam start) d
@@ -47,14 +47,14 @@ module _ (n width beam : ℕ) (table : List ℕ) (d : ℕ → ℕ) (start : ℕ)
             record {
               pooled = g .added .pooled;
               same = g .added .same;
-              measured = λ f q m. g .added .measured f (subst (Seen n words floats v) (sym q) (seen-known n width beam table d start low rule epoch words₀ words floats₀ floats e v _ w k)) m;
+              measured = λ f q m. g .added .measured f (subst (Seen n words floats v) (sym q) (seen-known n width beam table d start low rule epoch words₀ words floats₀ floats e v w k)) m;
             } in
-            rw (sym pool-kept, sym dists-kept, sym (seen-visits n width beam table d start low rule epoch words₀ words floats₀ floats e v f w k)) a;
+            rw (sym pool-kept, sym dists-kept, sym (seen-visits n width beam table d start low rule epoch words₀ words floats₀ floats e v w k)) a;
         words-kept =
-            within-trans 0 (5 * n + 256) words₀ words words′ (within-wider 0 (2 * n + 256 + n) words₀ words (k .words-kept) 0 (5 * n + 256) (omega arith) (omega arith))
+            within-trans 0 (5 * n + 256) words₀ words words′ (within-wider 0 (2 * n + 256) words₀ words (k .words-kept) 0 (5 * n + 256) (omega arith) (omega arith))
             (within-wider (3 * n + 256) (5 * n + 256) words words′ (g .words-kept) 0 (5 * n + 256) (omega arith) (omega arith));
         floats-kept =
-            within-trans 0 (3 * n + 256) floats₀ floats floats′ (within-wider 0 (n + 256 + n) floats₀ floats (k .floats-kept) 0 (3 * n + 256) (omega arith) (omega arith))
+            within-trans 0 (3 * n + 256) floats₀ floats floats′ (within-wider 0 (n + 256) floats₀ floats (k .floats-kept) 0 (3 * n + 256) (omega arith) (omega arith))
             (within-wider (2 * n + 256) (3 * n + 256) floats floats′ (g .floats-kept) 0 (3 * n + 256) (omega arith) (omega arith));
       }
 

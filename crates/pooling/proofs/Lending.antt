@@ -33,8 +33,8 @@ module _ (n : ℕ) (words pool : List ℕ) (floats dists : List Float) (wr : 5 *
       rw (put-part (3 * n + 256) (5 * n + 256) words pool (omega arith) wr np, put-part (2 * n + 256) (3 * n + 256) floats dists (omega arith) fr nd) a
 
 -- a walk's room lies below the pool, so it is kept when nothing below the pool differs
-pub room-kept : (n epoch beam we fe : ℕ) (words₀ words : List ℕ) (floats₀ floats : List Float) → Room n n epoch beam words₀ floats₀ → Within (3 * n + 256) we words₀ words → Within (2 * n + 256) fe floats₀ floats
-    → Room n n epoch beam words floats
+pub room-kept : (n epoch beam we fe : ℕ) (words₀ words : List ℕ) (floats₀ floats : List Float) → Room n epoch beam words₀ floats₀ → Within (3 * n + 256) we words₀ words → Within (2 * n + 256) fe floats₀ floats
+    → Room n epoch beam words floats
 room-kept n epoch beam we fe words₀ words floats₀ floats m w f =
     record {
       nodes = m .nodes;
@@ -61,23 +61,23 @@ module _ (n stamp len : ℕ) (words₀ words : List ℕ) (floats₀ floats : Lis
   pub filled-floats : 3 * n + 256 ≤ length floats
   filled-floats = omega (arith, f .floats-kept .size)
 
-  pub id-kept : getD words (2 * n + 256 + k) 0 ≡ getD words₀ (2 * n + 256 + k) 0
-  id-kept = within-at (3 * n + 256) (5 * n + 256) words₀ words (f .words-kept) (2 * n + 256 + k) 0 (omega arith)
+  pub id-kept : getD words (n + k) 0 ≡ getD words₀ (n + k) 0
+  id-kept = within-at (3 * n + 256) (5 * n + 256) words₀ words (f .words-kept) (n + k) 0 (omega arith)
 
-  dist-kept : getD floats (n + 256 + k) nan ≡ getD floats₀ (n + 256 + k) nan
-  dist-kept = within-at (2 * n + 256) (3 * n + 256) floats₀ floats (f .floats-kept) (n + 256 + k) nan (omega arith)
+  dist-kept : getD floats k nan ≡ getD floats₀ k nan
+  dist-kept = within-at (2 * n + 256) (3 * n + 256) floats₀ floats (f .floats-kept) k nan (omega arith)
 
   seen-length : length (seenOf n words₀) ≡ n
-  seen-length = part-length (2 * n + 256) (2 * n + 256 + n) words₀ (omega arith) ∙ omega arith
+  seen-length = part-length n (2 * n) words₀ (omega arith) ∙ omega arith
 
-  seen-more : take (k + 1) (seenOf n words₀) ≡ take k (seenOf n words₀) ++ (getD words (2 * n + 256 + k) 0 ∷ [])
+  seen-more : take (k + 1) (seenOf n words₀) ≡ take k (seenOf n words₀) ++ (getD words (n + k) 0 ∷ [])
   seen-more =
       rw (add-one k)
       (take-suc (seenOf n words₀) k 0 (omega (arith, seen-length))
-      ∙ ap (λ (x : ℕ). take k (seenOf n words₀) ++ (x ∷ [])) (part-at (2 * n + 256) (2 * n + 256 + n) words₀ k 0 (omega arith) ∙ sym id-kept))
+      ∙ ap (λ (x : ℕ). take k (seenOf n words₀) ++ (x ∷ [])) (part-at n (2 * n) words₀ k 0 (omega arith) ∙ sym id-kept))
 
   pub filled-more : (pool : List ℕ) (dists : List Float) (np : length pool ≡ length (poolOf n words)) (nd : length dists ≡ length (distsOf n floats)) (r′ : ℕ)
-      → Added n stamp (poolOf n words) (distsOf n floats) r pool dists r′ (getD words (2 * n + 256 + k) 0 ∷ []) (λ d. getD floats (n + 256 + k) nan ≡ whole (d (getD words (2 * n + 256 + k) 0)))
+      → Added n stamp (poolOf n words) (distsOf n floats) r pool dists r′ (getD words (n + k) 0 ∷ []) (λ d. getD floats k nan ≡ whole (d (getD words (n + k) 0)))
       → Filled n stamp words₀ floats₀ len (putMid (3 * n + 256) ((5 * n + 256) - (3 * n + 256)) words pool) (putMid (2 * n + 256) ((3 * n + 256) - (2 * n + 256)) floats dists) r′ (k + 1)
   filled-more pool dists np nd r′ a =
       record {

@@ -1,8 +1,9 @@
--- What a walk visits: entries, each with its distance; and so does its log.
+-- What a walk visits: entries, each with its distance; and so the scratch holds them.
 use mathlib.Core.Path.{_≡_, refl, sym, ap, _∙_, subst}
 use mathlib.Core.Bool.{Bool, true, false, _||_, cond, true≢false}
 use mathlib.Core.List.{List, [], _∷_, map}
 use Prim.Native.Nat.{ℕ, zero, suc, _+_, _*_, _<_}
+use native.Mathlib.Nat.{zero-add}
 use native.Mathlib.Omega.{arith}
 use borrow.Author.Tests.{eq-eqb}
 use lib.Dec.{eqb}
@@ -19,8 +20,7 @@ use Rattle.laws.specs.Parts.{part, part-at, part-length}
 use Rattle.laws.specs.Words.{padding, Row}
 use Rattle.items.specs.Items.{All}
 use Rattle.items.specs.Held.{all-at, all-append, all-take, all-drop}
-use Rattle.greedy.specs.Scratch.{Logged, Walks}
-use Rattle.greedy.specs.Cases.{logged-all}
+use Rattle.greedy.specs.Scratch.{Walks}
 use Rattle.pooling.specs.Regions.{seenOf, Seen, SeenBelow, visits}
 
 -- P is whatever the start has, and every word of a row that is no padding
@@ -75,29 +75,27 @@ module _ (n width beam : ℕ) (table : List ℕ) (d : ℕ → ℕ) (start : ℕ)
   visited-known : All (λ (c : Item). (c .id < n) × (c .dist ≡ d (c .id))) (greedy d (row width table) n beam start .visited)
   visited-known = greedy-all (λ (c : Item). (c .id < n) × (c .dist ≡ d (c .id))) d beam (row width table) (rows-known n width table d rule) n start (low, refl)
 
-  module _ (epoch : ℕ) (words₀ words : List ℕ) (floats₀ floats : List Float) (e v f w : ℕ) (k : Walks n n epoch beam words₀ floats₀ words floats e v f w (greedy d (row width table) n beam start)) where
-    log : Logged (seenOf n words) (part (n + 256) (n + 256 + n) floats) v (greedy d (row width table) n beam start .visited)
-    log = logged-all n epoch beam words₀ floats₀ words floats e v f w (greedy d (row width table) n beam start) k
-
+  module _ (epoch : ℕ) (words₀ words : List ℕ) (floats₀ floats : List Float) (e v w : ℕ) (k : Walks n epoch beam words₀ floats₀ words floats e v w (greedy d (row width table) n beam start)) where
     seen-length : length (seenOf n words) ≡ n
-    seen-length = part-length (2 * n + 256) (2 * n + 256 + n) words (k .room .word-room) ∙ omega arith
+    seen-length = part-length n (2 * n) words (omega (arith, k .room .word-room)) ∙ omega arith
 
     visited-count : length (greedy d (row width table) n beam start .visited) ≡ v
     visited-count =
-        sym (length-map (greedy d (row width table) n beam start .visited) (λ (c : Item). c .id)) ∙ ap length (sym (log .ids-are)) ∙ length-take-le v (seenOf n words) (omega (arith, seen-length, k .visited-le))
+        sym (length-map (greedy d (row width table) n beam start .visited) (λ (c : Item). c .id)) ∙ ap length (sym (k .visited-is .ids-are)) ∙ length-take-le v (seenOf n words) (omega (arith, seen-length, k .visited-le))
 
-    id-at : (j : ℕ) → j < v → getD words (2 * n + 256 + j) 0 ≡ getD (greedy d (row width table) n beam start .visited) j nobody .id
+    id-at : (j : ℕ) → j < v → getD words (n + j) 0 ≡ getD (greedy d (row width table) n beam start .visited) j nobody .id
     id-at j h =
-        sym (part-at (2 * n + 256) (2 * n + 256 + n) words j 0 (omega (arith, k .visited-le)))
+        sym (part-at n (2 * n) words j 0 (omega (arith, k .visited-le)))
         ∙ sym (getD-take v (seenOf n words) j 0 h)
-        ∙ ap (λ (l : List ℕ). getD l j 0) (log .ids-are)
+        ∙ ap (λ (l : List ℕ). getD l j 0) (k .visited-is .ids-are)
         ∙ at-map (λ (c : Item). c .id) (greedy d (row width table) n beam start .visited) j 0 (omega (arith, visited-count))
 
-    dist-at : (j : ℕ) → j < v → getD floats (n + 256 + j) nan ≡ whole (getD (greedy d (row width table) n beam start .visited) j nobody .dist)
+    dist-at : (j : ℕ) → j < v → getD floats j nan ≡ whole (getD (greedy d (row width table) n beam start .visited) j nobody .dist)
     dist-at j h =
-        sym (part-at (n + 256) (n + 256 + n) floats j nan (omega (arith, k .visited-le)))
-        ∙ sym (getD-take v (part (n + 256) (n + 256 + n) floats) j nan h)
-        ∙ ap (λ (l : List Float). getD l j nan) (log .dists-are)
+        ap (λ (i : ℕ). getD floats i nan) (sym (zero-add j))
+        ∙ sym (part-at 0 n floats j nan (omega (arith, k .visited-le)))
+        ∙ sym (getD-take v (part 0 n floats) j nan h)
+        ∙ ap (λ (l : List Float). getD l j nan) (k .visited-is .dists-are)
         ∙ at-map (λ (c : Item). whole (c .dist)) (greedy d (row width table) n beam start .visited) j nan (omega (arith, visited-count))
 
     known-at : (j : ℕ) → j < v → (getD (greedy d (row width table) n beam start .visited) j nobody .id < n) × (getD (greedy d (row width table) n beam start .visited) j nobody .dist ≡ d (getD (greedy d (row width table) n beam start .visited) j nobody .id))
@@ -111,4 +109,4 @@ module _ (n width beam : ℕ) (table : List ℕ) (d : ℕ → ℕ) (start : ℕ)
 
     pub seen-visits : take v (seenOf n words) ≡ visits d width table n beam start
     unfolding visits visitedIds
-    seen-visits = log .ids-are
+    seen-visits = k .visited-is .ids-are

@@ -10,7 +10,7 @@ use Rattle.definition.specs.Lists.{isIn}
 use Rattle.definition.specs.Metric.{whole}
 use Rattle.laws.specs.Apart.{Apart}
 use Rattle.laws.specs.Members.{Same}
-use Rattle.greedy.specs.Scratch.{count}
+use Rattle.marks.specs.Marked.{count}
 
 -- the first len ids are the pool's
 pub record Pooled (n stamp len : ℕ) (pool : List ℕ) : Type 0 where

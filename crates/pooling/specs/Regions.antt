@@ -1,5 +1,6 @@
 -- The pool in the scratch of a batch over n entries, beside what a walk uses of it.
--- Words: visited ids from 2n + 256, pool ids from 3n + 256, pool marks from 4n + 256 to 5n + 256. Floats: visited distances from n + 256, pool distances from 2n + 256 to 3n + 256.
+-- Words: visited ids from n, pool ids from 3n + 256, pool marks from 4n + 256 to 5n + 256. Floats: visited distances from 0, pool distances from 2n + 256 to 3n + 256.
+-- Words 2n + 256 .. 3n + 256 and floats n + 256 .. 2n + 256 are free.
 use mathlib.Core.Path.{_≡_}
 use mathlib.Core.List.{List, _∷_, _++_, map}
 use Prim.Native.Nat.{ℕ, _+_, _*_, _≤_, _<_}
@@ -23,15 +24,15 @@ distsOf n floats = part (2 * n + 256) (3 * n + 256) floats
 
 -- the ids that a walk visited
 abbrev pub seenOf : ℕ → List ℕ → List ℕ
-seenOf n words = part (2 * n + 256) (2 * n + 256 + n) words
+seenOf n words = part n (2 * n) words
 
 -- the first k that were visited are entries
 abbrev pub SeenBelow : ℕ → List ℕ → ℕ → Type 0
-SeenBelow n words k = (j : ℕ) → j < k → getD words (2 * n + 256 + j) 0 < n
+SeenBelow n words k = (j : ℕ) → j < k → getD words (n + j) 0 < n
 
 -- and have the distances d
 abbrev pub Seen : ℕ → List ℕ → List Float → ℕ → (ℕ → ℕ) → Type 0
-Seen n words floats k d = (j : ℕ) → j < k → getD floats (n + 256 + j) nan ≡ whole (d (getD words (2 * n + 256 + j) 0))
+Seen n words floats k d = (j : ℕ) → j < k → getD floats j nan ≡ whole (d (getD words (n + j) 0))
 
 -- the first k that were visited went into the pool
 pub record Filled (n stamp : ℕ) (words₀ : List ℕ) (floats₀ : List Float) (len : ℕ) (words : List ℕ) (floats : List Float) (r k : ℕ) : Type 0 where
@@ -39,17 +40,16 @@ pub record Filled (n stamp : ℕ) (words₀ : List ℕ) (floats₀ : List Float)
   pub words-kept : Within (3 * n + 256) (5 * n + 256) words₀ words
   pub floats-kept : Within (2 * n + 256) (3 * n + 256) floats₀ floats
 
--- what a node's walks go over: its vector for the query, the wide rows, and a log of n
-pub record Ground (n dim width log : ℕ) (vectors query wide : List ℕ) : Type 0 where
+-- what a node's walks go over: its vector for the query, and the wide rows
+pub record Ground (n dim width : ℕ) (vectors query wide : List ℕ) : Type 0 where
   pub measures : Measures n dim vectors query
-  pub logs : log ≡ n
   pub size : length wide ≡ n * width
   pub narrow : width ≤ 128
   pub rows : Row n wide
 
 -- the scratch with len ids in the pool, as the next walk may find it
 pub record Holding (n epoch beam stamp len : ℕ) (words : List ℕ) (floats : List Float) : Type 0 where
-  pub room : Room n n epoch beam words floats
+  pub room : Room n epoch beam words floats
   pub word-room : 5 * n + 256 ≤ length words
   pub float-room : 3 * n + 256 ≤ length floats
   pub pooled : Pooled n stamp len (poolOf n words)

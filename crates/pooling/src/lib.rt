@@ -68,7 +68,7 @@ fn add_row(
     len
 }
 
-// All that a walk visited: ids and distances stand in its log.
+// All that a walk visited: it left their ids and distances in the scratch.
 fn add_visited(
     words: &mut [u32],
     floats: &mut [f32],
@@ -85,10 +85,9 @@ fn add_visited(
     let mut more = len;
     let mut k = 0;
     while k < visited {
-        let w = 2 * n + 256 + k;
-        let f = n + 256 + k;
-        let id = words[w];
-        let dist = floats[f];
+        let at = n + k;
+        let id = words[at];
+        let dist = floats[k];
         let pool_at = 3 * n + 256;
         let pool_end = 5 * n + 256;
         let dists_at = 2 * n + 256;
@@ -125,7 +124,7 @@ fn add_walk(
     len: usize,
     start: u32,
 ) -> Collected
-    requires { ⌜ Ground (p .n) (p .dim) (p .width) (p .log) (now vectors) (now query) (now wide) ⌝ }
+    requires { ⌜ Ground (p .n) (p .dim) (p .width) (now vectors) (now query) (now wide) ⌝ }
     requires { ⌜ Holding (p .n) epoch (p .beam) stamp len (now words) (now floats) ⌝ }
     requires { ⌜ start < p .n ⌝ }
     ensures { λ r. ⌜ Grown (p .n) (p .beam) stamp (now (words .entry)) (now (floats .entry)) len (now (words .exit)) (now (floats .exit)) (r .epoch) (r .len) (visits (fromQuery (p .dim) (now (vectors .entry)) (now (query .entry))) (p .width) (now (wide .entry)) (p .n) (p .beam) start) (fromQuery (p .dim) (now (vectors .entry)) (now (query .entry))) ⌝ }
@@ -150,7 +149,7 @@ fn add_walks(
     seeds: &[u32],
     c: Collected,
 ) -> Collected
-    requires { ⌜ Ground (p .n) (p .dim) (p .width) (p .log) (now vectors) (now query) (now wide) ⌝ }
+    requires { ⌜ Ground (p .n) (p .dim) (p .width) (now vectors) (now query) (now wide) ⌝ }
     requires { ⌜ Holding (p .n) (c .epoch) (p .beam) stamp (c .len) (now words) (now floats) ⌝ }
     requires { ⌜ Below (p .n) (now seeds) ⌝ }
     ensures { λ r. ⌜ Grown (p .n) (p .beam) stamp (now (words .entry)) (now (floats .entry)) (c .len) (now (words .exit)) (now (floats .exit)) (r .epoch) (r .len) (joined (map (visits (fromQuery (p .dim) (now (vectors .entry)) (now (query .entry))) (p .width) (now (wide .entry)) (p .n) (p .beam)) (now (seeds .entry)))) (fromQuery (p .dim) (now (vectors .entry)) (now (query .entry))) ⌝ }
@@ -189,7 +188,7 @@ pub fn collect_pool(
     start: u32,
     seeds: &[u32],
 ) -> Collected
-    requires { ⌜ Ground (p .n) (p .dim) (p .width) (p .log) (now vectors) (now query) (now wide) ⌝ }
+    requires { ⌜ Ground (p .n) (p .dim) (p .width) (now vectors) (now query) (now wide) ⌝ }
     requires { ⌜ Holding (p .n) epoch (p .beam) stamp 0 (now words) (now floats) ⌝ }
     requires { ⌜ (node < p .n) × (start < p .n) × Below (p .n) (now seeds) ⌝ }
     ensures { λ r. ⌜ Grown (p .n) (p .beam) stamp (now (words .entry)) (now (floats .entry)) 0 (now (words .exit)) (now (floats .exit)) (r .epoch) (r .len) (pooledIds (fromQuery (p .dim) (now (vectors .entry)) (now (query .entry))) (p .width) (now (wide .entry)) (p .n) (p .beam) node start (now (seeds .entry))) (fromQuery (p .dim) (now (vectors .entry)) (now (query .entry))) ⌝ }

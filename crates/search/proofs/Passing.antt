@@ -18,7 +18,7 @@ use Rattle.laws.specs.Parts.{part, Within, part-length, put-within, within-wide
 use Rattle.beam.specs.Held.{Holds}
 use Rattle.greedy.specs.Scratch.{Room, Measures, Walks}
 use Rattle.laws.specs.Words.{Row}
-use Rattle.greedy.proofs.Starting.{fresh-clear}
+use Rattle.marks.specs.Epochs.{fresh-clear}
 use Rattle.numbers.specs.SearchNumber.{Accepted}
 use Rattle.search.specs.Answering.{Listed, Wiped, workOf, found-count, found-ids, found-dists}
 use Rattle.search.specs.Statement.{outOf, Searched}
@@ -35,7 +35,7 @@ module _ (c : SearchCall) (a : Accepted c) (ys : List ℕ) (zero-marks : ys ≡ 
   front = put-within 0 (c .n) (c .words) ys zero-le marks-room (ap length zero-marks ∙ length-replicate _ 0)
 
   -- ---- the walk may begin
-  pub start-room : Room (c .n) 0 1 b (putMid 0 (c .n - 0) (c .words) ys) (c .floats)
+  pub start-room : Room (c .n) 1 b (putMid 0 (c .n - 0) (c .words) ys) (c .floats)
   start-room =
       record {
         nodes = a .nodes;
@@ -48,8 +48,8 @@ module _ (c : SearchCall) (a : Accepted c) (ys : List ℕ) (zero-marks : ys ≡ 
   pub start-measures : Measures (c .n) (c .dim) (c .vectors) (c .query)
   start-measures = record { vectors-are = a .vectors-are; query-is = a .query-is; few = a .dim-few }
 
-  module _ (words₂ : List ℕ) (floats₂ : List Float) (e v f w : ℕ)
-      (walks : Walks (c .n) 0 1 b (putMid 0 (c .n - 0) (c .words) ys) (c .floats) words₂ floats₂ e v f w (greedy (fromQuery (c .dim) (c .vectors) (c .query)) (row (c .degree) (c .table)) (c .n) b (c .start)))
+  module _ (words₂ : List ℕ) (floats₂ : List Float) (e v w : ℕ)
+      (walks : Walks (c .n) 1 b (putMid 0 (c .n - 0) (c .words) ys) (c .floats) words₂ floats₂ e v w (greedy (fromQuery (c .dim) (c .vectors) (c .query)) (row (c .degree) (c .table)) (c .n) b (c .start)))
       (count : ℕ) (count-is : count ≡ min (c .k) w) where
     words-room : 2 * c .n + 256 ≤ length words₂
     words-room = omega (arith, walks .words-kept .size, front .size, a .word-room)
@@ -79,18 +79,18 @@ module _ (c : SearchCall) (a : Accepted c) (ys : List ℕ) (zero-marks : ys ≡ 
     held : Holds (part (2 * c .n) (2 * c .n + 256) words₂) (part (c .n) (c .n + 256) floats₂) w (workOf c .work)
     held =
         subst (λ (m : ℕ). Holds (part (2 * c .n) (2 * c .n + 256) words₂) (part (c .n) (c .n + 256) floats₂) w (greedy (fromQuery (c .dim) (c .vectors) (c .query)) (row (c .degree) (c .table)) (c .n) m (c .start) .work)) b-is
-        (walks .holds .beams .work-is)
+        (walks .work-is)
 
     beyond-words : drop (searchWords (c .n)) words₂ ≡ drop (searchWords (c .n)) (c .words)
     unfolding searchWords
     beyond-words =
         within-trans 0 (2 * c .n + 256) (c .words) _ words₂
         (within-wider 0 (c .n) _ _ front 0 (2 * c .n + 256) (omega arith) (omega arith))
-        (within-wider 0 (2 * c .n + 256 + 0) _ words₂ (walks .words-kept) 0 (2 * c .n + 256) (omega arith) (omega arith)) .above
+        (walks .words-kept) .above
 
     beyond-floats : drop (searchFloats (c .n)) floats₂ ≡ drop (searchFloats (c .n)) (c .floats)
     unfolding searchFloats
-    beyond-floats = within-wider 0 (c .n + 256 + 0) (c .floats) floats₂ (walks .floats-kept) 0 (c .n + 256) (omega arith) (omega arith) .above
+    beyond-floats = walks .floats-kept .above
 
     module _ (ids : List ℕ) (dists : List Float) (l : Listed (part (2 * c .n) (2 * c .n + 256) words₂) (part (c .n) (c .n + 256) floats₂) w count (c .ids) (c .dists) ids dists)
         (words₃ : List ℕ) (floats₃ : List Float) (z : Wiped (c .n) words₂ floats₂ words₃ floats₃) where

@@ -3,7 +3,7 @@
 use definition::Answer;
 use greedy::Plan;
 ghost use mathlib.Core.Path.{_≡_};
-ghost use Prim.Native.Nat.{_+_, _*_, _≤_, _<_, min, max};
+ghost use Prim.Native.Nat.{_+_, _*_, _≤_, _<_, max};
 ghost use lib.ListN.{length};
 ghost use Rattle.definition.specs.Lists.{cleared};
 ghost use Rattle.definition.specs.Floats.{nought};
@@ -21,15 +21,6 @@ fn raised(beam: usize) -> usize
         return 1;
     }
     beam
-}
-
-fn least(a: usize, b: usize) -> usize
-    ensures { λ r. ⌜ r ≡ min a b ⌝ }
-{
-    if a < b {
-        return a;
-    }
-    b
 }
 
 // The best `count` of a beam of `len` items, from its end, over the front of the two outputs.
@@ -92,12 +83,11 @@ pub fn search_accepted(
         dim,
         width: degree,
         beam: most,
-        log: 0,
     };
     laws::clear_words(&mut words[0..n]);
     let s = greedy::greedy(words, floats, vectors, query, table, p, 1, start);
     let len = s.work;
-    let count = least(k, len);
+    let count = laws::least(k, len);
     let w = 2 * n;
     let we = w + 256;
     let fe = n + 256;

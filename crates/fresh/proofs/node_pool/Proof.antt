@@ -1,5 +1,5 @@
 -- `node_pool` meets its contract. No mark is the stamp yet, so the pool begins empty; the part lent as the query is the node's vector.
-use mathlib.Core.Path.{refl, subst}
+use mathlib.Core.Path.{subst}
 use Prim.Native.Nat.{ℕ, _+_}
 use native.Mathlib.Omega.{arith}
 use borrow.Author.Needs.{needs}
@@ -38,7 +38,6 @@ collect-pool-requires c κs =
     let v = vector-in (s .args .dim) (s .args .vectors .now) (s .args .n) (s .args .node) (s .pre .0 .vectors-are) (s .pre .1 .1 .1) in (
       record {
         measures = record { vectors-are = s .pre .0 .vectors-are; query-is = lent-length (s .args .dim) (s .args .vectors .now) (s .args .node) v; few = s .pre .0 .dim-le };
-        logs = refl;
         size = s .pre .0 .size;
         narrow = omega (arith, s .pre .0 .width-is, slack-small (s .args .params .degree) (s .pre .0 .degree-le));
         rows = s .pre .0 .rows;

@@ -1,4 +1,4 @@
--- `add_visited` meets its contract. The first k of the log have been added.
+-- `add_visited` meets its contract. The first k that were visited have been added.
 use mathlib.Core.Path.{_≡_, sym, subst}
 use Prim.Native.Nat.{ℕ, _-_, _≤_, _<_}
 use native.Mathlib.Omega.{arith}
@@ -18,20 +18,8 @@ abbrev μ-loop : tie.MeasureT-loop
 loop-holds : tie.Need-loop-holds Inv-loop μ-loop
 loop-holds c = let s = c .before .before in (omega arith, filled-none (s .args .n) (s .args .stamp) (s .args .len) (s .args .words .now) (s .args .floats .now) (s .pre .0))
 
-mul-w : tie.Need-mul-w Inv-loop μ-loop
-mul-w c = search needs
-
-add-w : tie.Need-add-w Inv-loop μ-loop
-add-w c = search needs
-
-add-w-2 : tie.Need-add-w-2 Inv-loop μ-loop
-add-w-2 c = search needs
-
-add-f : tie.Need-add-f Inv-loop μ-loop
-add-f c = search needs
-
-add-f-2 : tie.Need-add-f-2 Inv-loop μ-loop
-add-f-2 c = search needs
+add-at : tie.Need-add-at Inv-loop μ-loop
+add-at c = search needs
 
 mul-id : tie.Need-mul-id Inv-loop μ-loop
 mul-id c = search needs
@@ -134,11 +122,7 @@ add-visited-spec =
     Inv-loop
     μ-loop
     loop-holds
-    mul-w
-    add-w
-    add-w-2
-    add-f
-    add-f-2
+    add-at
     mul-id
     slice-read-id
     mul-dist

@@ -15,7 +15,7 @@ use Rattle.search.proofs.search_accepted.Lts as lts
 use Rattle.answer.proofs.found.Reads as found-reads
 use Rattle.greedy.proofs.greedy.Reads as greedy-reads
 use Rattle.laws.proofs.clear_words.Reads as clear-words-reads
-use Rattle.search.proofs.least.Reads as least-reads
+use Rattle.laws.proofs.least.Reads as least-reads
 use Rattle.search.proofs.list_answers.Reads as list-answers-reads
 use Rattle.search.proofs.raised.Reads as raised-reads
 use Rattle.search.proofs.wipe.Reads as wipe-reads
@@ -102,13 +102,13 @@ part-list-answers-end-2 c = search needs
 -- src/lib.rt:105:5
 list-answers-requires : tie.Need-list-answers-requires
 list-answers-requires c κs = (
-  list-from (asked (c .before .before .before .before .before .before .before .before .before .before .before .before .before .before .before .before .before .before .before .before .before .before .before .before .before .before)) (c .before .before .before .before .before .before .before .before .before .before .before .before .before .before .before .before .before .before .before .before .before .before .before .before .before .before .pre) _ (c .before .before .before .before .before .before .before .before .before .before .before .before .before .before .before .before .clear-words .ensures) _ (c .before .before .before .before .before .before .before .before .before .before .before .before .before .before .before .before .before .before .raised .ensures) _ _ _ _ _ _ (c .before .before .before .before .before .before .before .before .before .before .before .greedy .ensures) _ (c .before .before .before .before .before .before .least .ensures),
-  list-to (asked (c .before .before .before .before .before .before .before .before .before .before .before .before .before .before .before .before .before .before .before .before .before .before .before .before .before .before)) (c .before .before .before .before .before .before .before .before .before .before .before .before .before .before .before .before .before .before .before .before .before .before .before .before .before .before .pre) _ (c .before .before .before .before .before .before .before .before .before .before .before .before .before .before .before .before .clear-words .ensures) _ (c .before .before .before .before .before .before .before .before .before .before .before .before .before .before .before .before .before .before .raised .ensures) _ _ _ _ _ _ (c .before .before .before .before .before .before .before .before .before .before .before .greedy .ensures) _ (c .before .before .before .before .before .before .least .ensures),
+  list-from (asked (c .before .before .before .before .before .before .before .before .before .before .before .before .before .before .before .before .before .before .before .before .before .before .before .before .before .before)) (c .before .before .before .before .before .before .before .before .before .before .before .before .before .before .before .before .before .before .before .before .before .before .before .before .before .before .pre) _ (c .before .before .before .before .before .before .before .before .before .before .before .before .before .before .before .before .clear-words .ensures) _ (c .before .before .before .before .before .before .before .before .before .before .before .before .before .before .before .before .before .before .raised .ensures) _ _ _ _ _ (c .before .before .before .before .before .before .before .before .before .before .before .greedy .ensures) _ (c .before .before .before .before .before .before .least .ensures),
+  list-to (asked (c .before .before .before .before .before .before .before .before .before .before .before .before .before .before .before .before .before .before .before .before .before .before .before .before .before .before)) (c .before .before .before .before .before .before .before .before .before .before .before .before .before .before .before .before .before .before .before .before .before .before .before .before .before .before .pre) _ (c .before .before .before .before .before .before .before .before .before .before .before .before .before .before .before .before .clear-words .ensures) _ (c .before .before .before .before .before .before .before .before .before .before .before .before .before .before .before .before .before .before .raised .ensures) _ _ _ _ _ (c .before .before .before .before .before .before .before .before .before .before .before .greedy .ensures) _ (c .before .before .before .before .before .before .least .ensures),
 )
 
 -- src/lib.rt:106:5
 wipe-requires : tie.Need-wipe-requires
-wipe-requires c κs = wipe-room (asked (c .before .before .before .before .before .before .before .before .before .before .before .before .before .before .before .before .before .before .before .before .before .before .before .before .before .before .before .before .before .before .before .before .before)) (c .before .before .before .before .before .before .before .before .before .before .before .before .before .before .before .before .before .before .before .before .before .before .before .before .before .before .before .before .before .before .before .before .before .pre) _ (c .before .before .before .before .before .before .before .before .before .before .before .before .before .before .before .before .before .before .before .before .before .before .before .clear-words .ensures) _ (c .before .before .before .before .before .before .before .before .before .before .before .before .before .before .before .before .before .before .before .before .before .before .before .before .before .raised .ensures) _ _ _ _ _ _ (c .before .before .before .before .before .before .before .before .before .before .before .before .before .before .before .before .before .before .greedy .ensures) _ (c .before .before .before .before .before .before .before .before .before .before .before .before .before .least .ensures)
+wipe-requires c κs = wipe-room (asked (c .before .before .before .before .before .before .before .before .before .before .before .before .before .before .before .before .before .before .before .before .before .before .before .before .before .before .before .before .before .before .before .before .before)) (c .before .before .before .before .before .before .before .before .before .before .before .before .before .before .before .before .before .before .before .before .before .before .before .before .before .before .before .before .before .before .before .before .before .pre) _ (c .before .before .before .before .before .before .before .before .before .before .before .before .before .before .before .before .before .before .before .before .before .before .before .clear-words .ensures) _ (c .before .before .before .before .before .before .before .before .before .before .before .before .before .before .before .before .before .before .before .before .before .before .before .before .before .raised .ensures) _ _ _ _ _ (c .before .before .before .before .before .before .before .before .before .before .before .before .before .before .before .before .before .before .greedy .ensures) _ (c .before .before .before .before .before .before .before .before .before .before .before .before .before .least .ensures)
 
 -- src/lib.rt:107:5
 found-requires : tie.Need-found-requires
@@ -132,7 +132,7 @@ same-length-4 c = search needs
 
 -- src/lib.rt:70:1
 returns : tie.Need-returns
-returns c = done (asked (c .before .before .before .before .before .before .before .before .before .before .before .before .before .before .before .before .before .before .before .before .before .before .before .before .before .before .before .before .before .before .before .before .before .before .before .before .before .before .before)) (c .before .before .before .before .before .before .before .before .before .before .before .before .before .before .before .before .before .before .before .before .before .before .before .before .before .before .before .before .before .before .before .before .before .before .before .before .before .before .before .pre) _ (c .before .before .before .before .before .before .before .before .before .before .before .before .before .before .before .before .before .before .before .before .before .before .before .before .before .before .before .before .before .clear-words .ensures) _ (c .before .before .before .before .before .before .before .before .before .before .before .before .before .before .before .before .before .before .before .before .before .before .before .before .before .before .before .before .before .before .before .raised .ensures) _ _ _ _ _ _ (c .before .before .before .before .before .before .before .before .before .before .before .before .before .before .before .before .before .before .before .before .before .before .before .before .greedy .ensures) _ (c .before .before .before .before .before .before .before .before .before .before .before .before .before .before .before .before .before .before .before .least .ensures) _ _ (c .before .before .before .before .before .before .before .before .before .before .before .before .list-answers .ensures) _ _ (c .before .before .before .before .before .wipe .ensures) _ (c .found .ensures)
+returns c = done (asked (c .before .before .before .before .before .before .before .before .before .before .before .before .before .before .before .before .before .before .before .before .before .before .before .before .before .before .before .before .before .before .before .before .before .before .before .before .before .before .before)) (c .before .before .before .before .before .before .before .before .before .before .before .before .before .before .before .before .before .before .before .before .before .before .before .before .before .before .before .before .before .before .before .before .before .before .before .before .before .before .before .pre) _ (c .before .before .before .before .before .before .before .before .before .before .before .before .before .before .before .before .before .before .before .before .before .before .before .before .before .before .before .before .before .clear-words .ensures) _ (c .before .before .before .before .before .before .before .before .before .before .before .before .before .before .before .before .before .before .before .before .before .before .before .before .before .before .before .before .before .before .before .raised .ensures) _ _ _ _ _ (c .before .before .before .before .before .before .before .before .before .before .before .before .before .before .before .before .before .before .before .before .before .before .before .before .greedy .ensures) _ (c .before .before .before .before .before .before .before .before .before .before .before .before .before .before .before .before .before .before .before .least .ensures) _ _ (c .before .before .before .before .before .before .before .before .before .before .before .before .list-answers .ensures) _ _ (c .before .before .before .before .before .wipe .ensures) _ (c .found .ensures)
 
 pub search-accepted-spec : {M : Type 1} → statement M
 search-accepted-spec =
