@@ -93,6 +93,63 @@ fn flat(rows: &[Vec<u32>], width: usize) -> Vec<u32> {
     rows.iter().flat_map(|row| row.iter().copied().chain(std::iter::repeat(PAD)).take(width)).collect()
 }
 
+/// The search without its checks (bench/run makes it): ours to call only with what they accept.
+mod unchecked {
+    use crate::ours::{Answer, Search};
+
+    extern "C" {
+        fn accepted_search(
+            n: usize,
+            dim: usize,
+            vectors: *const u8,
+            vectors_len: usize,
+            degree: usize,
+            beam: usize,
+            k: usize,
+            start: u32,
+            table: *const u32,
+            table_len: usize,
+            query: *const u8,
+            query_len: usize,
+            words: *mut u32,
+            words_len: usize,
+            floats: *mut f32,
+            floats_len: usize,
+            ids: *mut u32,
+            ids_len: usize,
+            dists: *mut f32,
+            dists_len: usize,
+        ) -> Answer;
+    }
+
+    pub fn search(s: Search, words: &mut [u32], floats: &mut [f32], ids: &mut [u32], dists: &mut [f32]) -> Answer {
+        unsafe {
+            accepted_search(
+                s.n,
+                s.dim,
+                s.vectors.as_ptr(),
+                s.vectors.len(),
+                s.degree,
+                s.beam,
+                s.k,
+                s.start,
+                s.table.as_ptr(),
+                s.table.len(),
+                s.query.as_ptr(),
+                s.query.len(),
+                words.as_mut_ptr(),
+                words.len(),
+                floats.as_mut_ptr(),
+                floats.len(),
+                ids.as_mut_ptr(),
+                ids.len(),
+                dists.as_mut_ptr(),
+                dists.len(),
+            )
+        }
+    }
+}
+
 #[repr(C)]
 #[derive(Default)]
 struct Timespec {
@@ -172,47 +229,50 @@ fn builds(i: &Input, repeats: usize) -> Vec<u32> {
     closed
 }
 
+type Found = fn(ours::Search, &mut [u32], &mut [f32], &mut [u32], &mut [f32]) -> ours::Answer;
+
 fn searches(i: &Input, table: &[u32], repeats: usize) {
     let (n, degree, start, vectors) = (i.n, PARAMS.degree, i.start, &i.vectors[..]);
     let (mut words, mut floats) = (vec![0; 2 * n + 256], vec![0.0; n + 256]);
     let (mut ids, mut dists) = (vec![0; K], vec![0.0; K]);
-    let mut search = |query: &[u8], words: &mut [u32], floats: &mut [f32]| {
+    let mut call = |search: Found, query: &[u8]| {
         let call = ours::Search { n, dim: DIM, vectors, degree, beam: BEAM, k: K, start, table, query };
-        let answer = ours::search(call, words, floats, &mut ids, &mut dists);
-        (answer, ids[..answer.count].iter().copied().zip(dists[..answer.count].iter().copied()).collect::<Vec<_>>())
+        let answer = black_box(search(call, &mut words, &mut floats, &mut ids, &mut dists));
+        (answer, ids[0], dists[K - 1])
     };
     let theirs = |query| probe::Search { dim: DIM, vectors, degree, table, query, start, beam: BEAM };
-    for query in &i.queries {
-        let (answer, pairs) = search(query, &mut words, &mut floats);
-        assert!(answer.number == 0 && pairs == probe::search(theirs(query)), "the answers");
-        probe::found(theirs(query), Counted);
-    }
+    agree(i, theirs, table);
     let asked = i.queries.len() as f64;
     println!("{:<28} 000 {:.1}", "  distances of a search", probe::distances() as f64 / asked);
     // refused by 11, so after the whole of the checks before it, the pass over the table for 8 among them
     let long = vec![0; DIM + 1];
-    assert_eq!(search(&long, &mut words, &mut floats).0.number, 11);
-    let mut call = |query: &[u8]| {
-        let call = ours::Search { n, dim: DIM, vectors, degree, beam: BEAM, k: K, start, table, query };
-        black_box(ours::search(call, &mut words, &mut floats, &mut ids, &mut dists));
-    };
-    let whole = best(repeats, || i.queries.iter().for_each(|q| call(q)));
-    let checks = best(repeats, || i.queries.iter().for_each(|_| call(&long)));
-    let found = |q| drop(black_box(probe::found(theirs(q), Bytes)));
-    let time = best(repeats, || i.queries.iter().for_each(|q| found(q)));
-    // the checks read the whole table, and so put the entries out of the caches before each of our walks: 000 behind the same pass
-    let behind = best(repeats, || {
-        i.queries.iter().for_each(|q| {
-            call(&long);
-            found(q);
-        })
-    }) - checks;
+    assert_eq!(call(ours::search, &long).0.number, 11);
+    let whole = best(repeats, || i.queries.iter().for_each(|q| drop(black_box(call(ours::search, q)))));
+    let accepted = best(repeats, || i.queries.iter().for_each(|q| drop(black_box(call(unchecked::search, q)))));
+    let checks = best(repeats, || i.queries.iter().for_each(|_| drop(black_box(call(ours::search, &long)))));
+    let time = best(repeats, || i.queries.iter().for_each(|q| drop(black_box(probe::found(theirs(q), Bytes)))));
     let each = 1e6 / asked;
     line("search, whole call", whole * each, time * each, "us");
-    line("search on accepted input", (whole - checks) * each, time * each, "us");
-    line("  both behind the checks", (whole - checks) * each, behind * each, "us");
+    line("search on accepted input", accepted * each, time * each, "us");
     let bytes = std::mem::size_of_val(table) as f64;
     println!("{:<28} ours {:>12.3} us   {:.1} bytes a ns", "  the checks alone", checks * each, bytes * asked / checks / 1e9);
+}
+
+/// Both give the same answers to each query, and so does the search without its checks. Counts 000's distances.
+fn agree<'a>(i: &'a Input, theirs: impl Fn(&'a [u8]) -> probe::Search<'a>, table: &[u32]) {
+    let n = i.n;
+    for query in &i.queries {
+        let expected = probe::search(theirs(query));
+        for search in [ours::search as Found, unchecked::search] {
+            let call = ours::Search { n, dim: DIM, vectors: &i.vectors, degree: PARAMS.degree, beam: BEAM, k: K, start: i.start, table, query };
+            let (mut words, mut floats) = (vec![0; 2 * n + 256], vec![0.0; n + 256]);
+            let (mut ids, mut dists) = (vec![0; K], vec![0.0; K]);
+            let answer = search(call, &mut words, &mut floats, &mut ids, &mut dists);
+            let pairs = ids.into_iter().zip(dists).take(answer.count);
+            assert!(answer.number == 0 && pairs.eq(expected.iter().copied()), "the answers");
+        }
+        probe::found(theirs(query), Counted);
+    }
 }
 
 fn main() {
