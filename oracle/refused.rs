@@ -89,7 +89,8 @@ fn spoil_row(r: &mut Rng, n: usize, width: usize, table: &mut [u32]) {
     match r.below(4) {
         0 => table[i] = n as u32,
         1 if i > row && table[i - 1] != PAD => table[i] = table[i - 1],
-        2 if i + 1 < row + width && table[i + 1] != PAD => table[i] = PAD,
+        // a table that is also too short may end within the row
+        2 if i + 1 < row + width && table.get(i + 1).is_some_and(|&word| word != PAD) => table[i] = PAD,
         _ => table[i] = (i / width) as u32,
     }
 }
