@@ -1,7 +1,7 @@
 -- A row: its new ids are marked, measured and met, and so the scratch goes on by the definition's `expand`.
 use mathlib.Core.Path.{_≡_, refl, sym, ap, _∙_, subst, subst₂}
 use mathlib.Core.List.{List, [], _∷_, _++_, map}
-use Prim.Native.Nat.{ℕ, zero, suc, _+_, _-_, _*_, _≤_, _<_}
+use Prim.Native.Nat.{ℕ, suc, _+_, _-_, _*_, _≤_, _<_}
 use native.Mathlib.Omega.{arith}
 use borrow.Rule.Slice.PartMut.{putMid}
 use lib.Ieee.{Float}
@@ -13,7 +13,7 @@ use Rattle.definition.specs.Greedy.{State, visitedIds, expand}
 use Rattle.laws.specs.Parts.{part, Within, part-length, part-at, within-below, within-above, within-wider, within-trans, put-within, put-part}
 use Rattle.metric.specs.Exact.{Distances}
 use Rattle.beam.specs.Held.{All, Small}
-use Rattle.marks.specs.Marked.{news, Marked, Seen, Gathers}
+use Rattle.marks.specs.Marked.{news, Seen, Gathers}
 use Rattle.marks.specs.Visits.{marked-most, marked-kept, seen-kept}
 use Rattle.greedy.specs.Scratch.{Ready, Works, Working, Is, Come, Met, Moves, meets}
 use Rattle.greedy.specs.Cases.{map-more, meets-visited, measured, measured-ids, expand-meets}

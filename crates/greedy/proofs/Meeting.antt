@@ -2,15 +2,14 @@
 use mathlib.Core.Path.{_≡_, refl, sym, ap, _∙_, subst}
 use mathlib.Core.List.{List, [], _∷_, _++_, map}
 use Prim.Native.Nat.{ℕ, zero, suc, _+_, _-_, _*_, _≤_, _<_}
-use native.Mathlib.Numerals.{add-one}
 use native.Mathlib.Omega.{arith}
 use lib.Ieee.{Float, nan}
-use lib.ListN.{length, getD, take, drop, length-append, length-map, take-append-drop}
-use lib.Seq.{take-suc, take-append-seam, drop-append-seam, length-take-le}
+use lib.ListN.{length, getD, take, drop, length-append, take-append-drop}
+use lib.Seq.{take-suc, take-append-seam, drop-append-seam}
 use Rattle.definition.specs.Metric.{whole}
 use Rattle.definition.specs.Beam.{Item}
 use Rattle.definition.specs.Greedy.{State}
-use Rattle.laws.specs.Parts.{part, part-at, part-length, within-at, within-trans, within-none}
+use Rattle.laws.specs.Parts.{part, part-length, within-at, within-trans, within-none}
 use Rattle.laws.specs.Backwards.{map-take}
 use Rattle.beam.specs.Held.{All, Small}
 use Rattle.beam.specs.Order.{all-take}

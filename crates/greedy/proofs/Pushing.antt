@@ -1,22 +1,21 @@
 -- An item into work, and an entry that is met.
 use mathlib.Core.Path.{_≡_, refl, sym, ap, _∙_, subst, subst₂}
-use mathlib.Core.Bool.{Bool, true, false, _||_, _&&_, cond}
-use mathlib.Core.List.{List, [], _∷_, _++_, map}
-use Prim.Native.Nat.{ℕ, suc, _+_, _-_, _*_, _≤_, _<_, min}
+use mathlib.Core.Bool.{Bool, true, false, _||_, _&&_}
+use mathlib.Core.List.{List, [], _∷_}
+use Prim.Native.Nat.{ℕ, _+_, _-_, _*_, _≤_, _<_, min}
 use native.Mathlib.Omega.{arith}
 use borrow.Author.Tests.{lt-ltb}
 use borrow.Rule.Slice.PartMut.{putMid}
 use lib.Dec.{ltb}
 use lib.Ieee.{Float, nan, lt}
 use lib.ListN.{length, getD, drop}
-use Rattle.definition.specs.Metric.{whole}
 use Rattle.definition.specs.Beam.{Item, insert, insertCapped, beatsWorst}
 use Rattle.definition.specs.Greedy.{State, admitted, meet}
-use Rattle.laws.specs.Parts.{part, Within, within-trans, within-none, put-within, put-part}
-use Rattle.beam.specs.Held.{All, Small, Holds, Stands, Capped}
+use Rattle.laws.specs.Parts.{part, within-none, put-within, put-part}
+use Rattle.beam.specs.Held.{Holds, Stands, Capped}
 use Rattle.beam.specs.Order.{length-insert}
 use Rattle.beam.specs.Reading.{worst-test}
-use Rattle.greedy.specs.Kept.{Kept, code, codes, items, opens, fresh, Closed, Inside, Beyond}
+use Rattle.greedy.specs.Kept.{Kept, code, codes, items, fresh}
 use Rattle.greedy.specs.Coding.{length-codes, length-items, closed-tail}
 use Rattle.greedy.specs.Keeping.{Entered, entered}
 use Rattle.greedy.specs.Scratch.{admitsF, Works, Working, Pushed, Come, Met, meets}

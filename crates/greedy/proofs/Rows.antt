@@ -1,13 +1,13 @@
 -- A row of the table.
-use mathlib.Core.Path.{_≡_, refl, sym, ap, _∙_, subst}
+use mathlib.Core.Path.{_≡_, refl, sym, _∙_, subst}
 use mathlib.Core.List.{List}
-use Prim.Native.Nat.{ℕ, suc, _+_, _-_, _*_, _≤_, _<_}
+use Prim.Native.Nat.{ℕ, _+_, _-_, _*_, _≤_, _<_}
 use native.Mathlib.Nat.{suc-mul, mul-le-mul, mul-le-mul-right, add-sub-cancel-left}
 use native.Mathlib.Omega.{arith}
-use lib.ListN.{length, getD, take}
+use lib.ListN.{length, getD}
 use Rattle.definition.specs.Tables.{row}
 use Rattle.laws.specs.Parts.{part, part-length, part-at}
-use Rattle.laws.specs.Words.{padding, Row}
+use Rattle.laws.specs.Words.{Row}
 
 pub row-room : (id n width : ℕ) → id < n → n ≤ 65536 → width ≤ 128 → (id * width + width ≤ n * width) × (n * width ≤ 8388608)
 row-room id n width h k l =

@@ -1,29 +1,29 @@
 -- The start of a walk, and its end.
 use mathlib.Core.Path.{_≡_, refl, sym, ap, _∙_, subst, subst₂}
-use mathlib.Core.Bool.{Bool, true, false, cond, _||_}
+use mathlib.Core.Bool.{Bool, true, false, _||_}
 use mathlib.Core.List.{List, [], _∷_, _++_, map}
 use Prim.Native.Nat.{ℕ, zero, suc, _+_, _-_, _*_, _/_, _≤_, _<_, min}
 use native.Mathlib.Omega.{arith}
 use borrow.Author.Tests.{lt-ltb}
 use borrow.Rule.Slice.PartMut.{putMid}
-use lib.Dec.{ltb, eqb}
+use lib.Dec.{ltb}
 use lib.Ieee.{Float}
-use lib.ListN.{length, getD, take, drop, set, length-map, length-set}
+use lib.ListN.{length, take, drop, set, length-map, length-set}
 use lib.Seq.{take-suc-set, take-at, length-take-le}
 use Rattle.definition.specs.Lists.{place}
 use Rattle.definition.specs.Metric.{whole}
 use Rattle.definition.specs.Tables.{pad}
 use Rattle.definition.specs.Beam.{Item, item, insert, insertCapped, best, withoutBest, beatsWorst}
-use Rattle.definition.specs.Greedy.{State, visitedIds, begin, expand, popped, step, stops, filled, steps, greedy}
+use Rattle.definition.specs.Greedy.{State, visitedIds, begin, expand, popped, stops, filled, steps, greedy}
 use Rattle.metric.specs.Exact.{Exact}
-use Rattle.laws.specs.Parts.{part, Within, part-length, part-set, within-above, within-below, within-wider, within-trans, within-none, put-within, put-part, set-within}
-use Rattle.beam.specs.Held.{All, Small, Holds, Stands}
+use Rattle.laws.specs.Parts.{part, Within, part-length, part-set, within-below, within-wider, within-trans, put-within, put-part, set-within}
+use Rattle.beam.specs.Held.{All, Small, Holds}
 use Rattle.marks.specs.Marked.{Marked, Seen, Gathers, Fresh}
 use Rattle.marks.specs.News.{news-one}
-use Rattle.marks.specs.Visits.{marked-start, seen-start, marked-most, marked-kept, seen-kept}
-use Rattle.greedy.specs.Kept.{Kept, code, codes, items, opens, Closed, Beyond}
+use Rattle.marks.specs.Visits.{seen-start, marked-most, marked-kept, seen-kept}
+use Rattle.greedy.specs.Kept.{Kept, code, codes, items, opens, Beyond}
 use Rattle.greedy.specs.Coding.{length-codes, length-items, dists-same, halves, desc-items}
-use Rattle.greedy.specs.Scratch.{Ready, Logged, Works, Working, Is, Pushed, Moves, Live, arrived, Arrived, Reaches, Empty, Collected, Room, Walks}
+use Rattle.greedy.specs.Scratch.{Ready, Works, Working, Is, Pushed, Moves, Live, arrived, Arrived, Reaches, Empty, Collected, Room, Walks}
 use Rattle.greedy.specs.Cases.{steps-stop, steps-go, stops-empty, stops-filled, step-is, greedy-is}
 
 -- ---- the start is visited

@@ -2,12 +2,11 @@
 -- What else the frontier has was cut from work, and is never walked: it is no nearer than the worst of a work that is full.
 use mathlib.Core.Path.{_≡_}
 use mathlib.Core.Bool.{Bool, true, false, cond}
-use mathlib.Core.List.{List, [], _∷_, _++_, map}
+use mathlib.Core.List.{List, [], _∷_, map}
 use Prim.Native.Nat.{ℕ, zero, suc, _+_, _*_, _-_, _≤_, _<_}
 use lib.Dec.{ltb}
-use lib.ListN.{length, getD, drop}
-use Rattle.definition.specs.Beam.{Item, item, nearer, insert, worst}
-use Rattle.beam.specs.Held.{All}
+use lib.ListN.{length}
+use Rattle.definition.specs.Beam.{Item, item, nearer, worst}
 
 pub record Kept : Type 0 where
   pub of : Item

@@ -2,9 +2,9 @@
 -- Words: marks from 0, visited ids from n, work (256) from 2n. Floats: visited distances from 0, work distances (256) from n.
 -- Work is written in codes (Kept): which of it is open says what the frontier still has to walk.
 use mathlib.Core.Path.{_≡_}
-use mathlib.Core.Bool.{Bool, true, false, _||_, _&&_, not, cond}
+use mathlib.Core.Bool.{Bool, true, _||_, _&&_, not, cond}
 use mathlib.Core.List.{List, [], _∷_, _++_, map}
-use Prim.Native.Nat.{ℕ, zero, suc, _+_, _*_, _-_, _≤_, _<_, _%_, min}
+use Prim.Native.Nat.{ℕ, _+_, _*_, _-_, _≤_, _<_, _%_, min}
 use lib.Dec.{leb, ltb, eqb}
 use lib.Ieee.{Float, nan, lt}
 use lib.ListN.{length, getD, take, drop}

@@ -8,42 +8,33 @@ use Rattle.greedy.proofs.halts.Tie as tie
 use Rattle.greedy.proofs.halts.Reads as reads
 use Rattle.greedy.proofs.halts.Lts as lts
 
--- src/lib.rt:182:9
 returns : tie.Need-returns
 unfolding haltsF
 returns c = rw (le-leb _ _ (c .if1 .taken)) refl
 
--- src/lib.rt:185:9
 returns-2 : tie.Need-returns-2
 unfolding haltsF
 returns-2 c = rw (lt-leb _ _ (c .before .if1 .left), lt-leb _ _ (c .if2 .taken)) refl
 
--- src/lib.rt:187:16
 sub-last : tie.Need-sub-last
 sub-last c = search needs
 
--- src/lib.rt:188:14
 sub-at : tie.Need-sub-at
 sub-at c = search needs
 
--- src/lib.rt:189:8
 mul-if3 : tie.Need-mul-if3
 mul-if3 c = search needs
 
--- src/lib.rt:189:8
 shared-slice-read-if3 : tie.Need-shared-slice-read-if3
 shared-slice-read-if3 c = search needs
 
--- src/lib.rt:189:19
 shared-slice-read-if3-2 : tie.Need-shared-slice-read-if3-2
 shared-slice-read-if3-2 c = search needs
 
--- src/lib.rt:190:9
 returns-3 : tie.Need-returns-3
 unfolding haltsF
 returns-3 c = rw (lt-leb _ _ (c .before .before .before .before .if1 .left), le-leb _ _ (c .before .before .before .if2 .left), c .if3 .taken) refl
 
--- src/lib.rt:177:1
 returns-4 : tie.Need-returns-4
 unfolding haltsF
 returns-4 c = rw (lt-leb _ _ (c .before .before .before .before .if1 .left), le-leb _ _ (c .before .before .before .if2 .left), c .if3 .left) refl

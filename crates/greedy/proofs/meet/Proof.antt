@@ -1,9 +1,7 @@
 -- `meet`.
-use mathlib.Core.Path.{_≡_, refl, sym, ap, _∙_, subst}
-use mathlib.Core.Logic.{⊎-elim}
-use Prim.Native.Nat.{ℕ, suc, _+_, _-_, _*_, _≤_, _<_}
+use mathlib.Core.Path.{refl, sym, _∙_}
+use Prim.Native.Nat.{_-_}
 use native.Mathlib.Omega.{arith}
-use lib.ListN.{length, getD, set, take, drop, length-set}
 use borrow.Author.Needs.{needs}
 use Rattle.greedy.proofs.Pushing.{met-in, met-out}
 use Rattle.greedy.proofs.meet.Statement.{statement}
@@ -14,59 +12,45 @@ use Rattle.greedy.proofs.admits.Reads as admits-reads
 use Rattle.greedy.proofs.push.Reads as push-reads
 use Rattle.laws.proofs.least.Reads as least-reads
 
--- src/lib.rt:87:16
 add-fend : tie.Need-add-fend
 add-fend c = search needs
 
--- src/lib.rt:88:15
 mul-admits : tie.Need-mul-admits
 mul-admits c = search needs
 
--- src/lib.rt:88:15
 sub-admits : tie.Need-sub-admits
 sub-admits c = search needs
 
--- src/lib.rt:88:15
 part-admits-start : tie.Need-part-admits-start
 part-admits-start c = search needs
 
--- src/lib.rt:88:15
 part-admits-end : tie.Need-part-admits-end
 part-admits-end c = search needs
 
--- src/lib.rt:88:8
 admits-requires : tie.Need-admits-requires
 admits-requires c κs = search needs
 
--- src/lib.rt:89:13
 push-requires : tie.Need-push-requires
 push-requires c κs = search needs
 
--- src/lib.rt:92:23
 add-t20 : tie.Need-add-t20
 add-t20 c = search needs
 
--- src/lib.rt:94:19
 least-requires : tie.Need-least-requires
 least-requires c κs = search needs
 
--- src/lib.rt:90:9
 same-length : tie.Need-same-length
 same-length c = search needs
 
--- src/lib.rt:90:9
 same-length-2 : tie.Need-same-length-2
 same-length-2 c = search needs
 
--- src/lib.rt:90:9
 returns : tie.Need-returns
 returns c = (rw (c .least .ensures) (met-in _ _ _ _ _ _ _ _ _ (omega arith) (omega arith) (sym (c .before .before .before .before .before .before .before .before .before .before .admits .ensures) ∙ c .before .before .before .before .before .before .before .before .before .if1 .taken) _ _ _ _ (c .before .before .before .before .before .before .push .ensures)), refl)
 
--- src/lib.rt:73:1
 same-length-3 : tie.Need-same-length-3
 same-length-3 c = search needs
 
--- src/lib.rt:73:1
 returns-2 : tie.Need-returns-2
 returns-2 c = (met-out _ _ _ _ _ _ _ _ _ (omega arith) (omega arith) (sym (c .before .admits .ensures) ∙ c .if1 .left), refl)
 

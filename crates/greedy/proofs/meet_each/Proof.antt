@@ -1,9 +1,7 @@
 -- `meet_each`.
-use mathlib.Core.Path.{_≡_, refl, sym, ap, _∙_, subst}
-use mathlib.Core.Logic.{⊎-elim}
-use Prim.Native.Nat.{ℕ, suc, _+_, _-_, _*_, _≤_, _<_}
+use mathlib.Core.Path.{_≡_, refl, _∙_}
+use Prim.Native.Nat.{_-_, _≤_}
 use native.Mathlib.Omega.{arith}
-use lib.ListN.{length, getD, set, take, drop, length-set}
 use borrow.Author.Needs.{needs}
 use Rattle.greedy.proofs.Meeting.{MetTo, met-start, met-few, met-more, met-end, id-as}
 use Rattle.greedy.proofs.meet_each.Statement.{statement}
@@ -18,31 +16,24 @@ Inv-loop words₀ floats₀ n beam from c s₀ j₀ words floats s j = (from ≤
 abbrev μ-loop : tie.MeasureT-loop
 μ-loop words₀ floats₀ n beam from c s₀ j₀ words floats s j = c .visited - j
 
--- src/lib.rt:118:5
 loop-holds : tie.Need-loop-holds Inv-loop μ-loop
 loop-holds c = let s = c .before .before in (omega arith, omega arith, refl, met-start _ _ _ _ _ _ _ (s .args .from) (omega arith) (omega arith))
 
--- src/lib.rt:119:18
 add-at : tie.Need-add-at Inv-loop μ-loop
 add-at c = search needs
 
--- src/lib.rt:120:18
 mul-id : tie.Need-mul-id Inv-loop μ-loop
 mul-id c = search needs
 
--- src/lib.rt:120:18
 slice-read-id : tie.Need-slice-read-id Inv-loop μ-loop
 slice-read-id c = search needs
 
--- src/lib.rt:121:20
 mul-dist : tie.Need-mul-dist Inv-loop μ-loop
 mul-dist c = search needs
 
--- src/lib.rt:121:20
 slice-read-dist : tie.Need-slice-read-dist Inv-loop μ-loop
 slice-read-dist c = search needs
 
--- src/lib.rt:122:9
 meet-requires : tie.Need-meet-requires Inv-loop μ-loop
 meet-requires c κs = let s = c .before .before .before .before .before .before .before .before .before in let i = c .before .before .before .before .before .before .loop .inv in let j = c .before .before .before .before .before .before .loop .j in
     omega (
@@ -59,27 +50,21 @@ meet-requires c κs = let s = c .before .before .before .before .before .before 
       s .pre .1 .1 .1 j (omega arith) (omega arith),
     )
 
--- src/lib.rt:123:9
 add-j : tie.Need-add-j Inv-loop μ-loop
 add-j c = search needs
 
--- src/lib.rt:118:5
 loop-less : tie.Need-loop-less Inv-loop μ-loop
 loop-less c = omega arith
 
--- src/lib.rt:118:5
 loop-again : tie.Need-loop-again Inv-loop μ-loop
 loop-again c = let i = c .before .before .before .before .before .before .before .before .before .before .before .loop .inv in (omega arith, omega arith, c .before .before .before .before .meet .ensures .1 ∙ i .2, met-more _ _ _ _ _ _ _ _ (omega arith) (omega arith) _ _ _ _ _ _ (i .3) (omega arith) (omega arith) _ _ _ _ _ (c .before .before .before .before .meet .ensures .0))
 
--- src/lib.rt:101:1
 same-length : tie.Need-same-length Inv-loop μ-loop
 same-length c = search needs
 
--- src/lib.rt:101:1
 same-length-2 : tie.Need-same-length-2 Inv-loop μ-loop
 same-length-2 c = search needs
 
--- src/lib.rt:101:1
 returns : tie.Need-returns Inv-loop μ-loop
 returns c = let i = c .before .before .loop .inv in (met-end _ _ _ _ _ _ _ _ _ _ _ _ _ _ _ (omega arith) (i .3), i .2)
 

@@ -14,45 +14,35 @@ Inv-loop work w done d₀ d = Passed work w done d
 abbrev μ-loop : tie.MeasureT-loop
 μ-loop work w done d₀ d = w - d
 
--- src/lib.rt:165:5
 loop-holds : tie.Need-loop-holds Inv-loop μ-loop
 loop-holds c = none-passed (c .args .work .now) (c .args .w) (c .args .done) (c .pre .1)
 
--- src/lib.rt:166:20
 sub-last : tie.Need-sub-last Inv-loop μ-loop
 sub-last c = search needs
 
--- src/lib.rt:167:18
 sub-at : tie.Need-sub-at Inv-loop μ-loop
 sub-at c = search needs
 
--- src/lib.rt:168:12
 mul-if1 : tie.Need-mul-if1 Inv-loop μ-loop
 mul-if1 c = search needs
 
--- src/lib.rt:168:12
 shared-slice-read-if1 : tie.Need-shared-slice-read-if1 Inv-loop μ-loop
 shared-slice-read-if1 c = search needs
 
--- src/lib.rt:171:9
 add-d : tie.Need-add-d Inv-loop μ-loop
 add-d c = search needs
 
--- src/lib.rt:165:5
 loop-less : tie.Need-loop-less Inv-loop μ-loop
 loop-less c = omega arith
 
--- src/lib.rt:165:5
 loop-again : tie.Need-loop-again Inv-loop μ-loop
 loop-again c =
     let l = c .before .before .before in
     let s = l .before in one-passed (s .args .work .now) (s .args .w) (s .args .done) (l .loop .d) (s .pre .0) (c .before .before .loop-test .taken) (c .if1 .left) (l .loop .inv)
 
--- src/lib.rt:160:1
 returns : tie.Need-returns Inv-loop μ-loop
 returns c = all-passed (c .before .before .args .work .now) (c .before .before .args .w) (c .before .before .args .done) (c .before .loop .d) (c .loop-test .left) (c .before .loop .inv)
 
--- src/lib.rt:160:1
 returns-2 : tie.Need-returns-2 Inv-loop μ-loop
 returns-2 c = let l = c .before .before .before in let s = l .before in passed-to (s .args .work .now) (s .args .w) (s .args .done) (l .loop .d) (c .if1 .taken) (l .loop .inv)
 

@@ -14,45 +14,35 @@ Inv-loop work₀ w i₀ work i = Halved work₀ work w i
 abbrev μ-loop : tie.MeasureT-loop
 μ-loop work₀ w i₀ work i = w - i
 
--- src/lib.rt:315:5
 loop-holds : tie.Need-loop-holds Inv-loop μ-loop
 loop-holds c = none-halved (c .args .work .now) (c .args .w)
 
--- src/lib.rt:316:19
 mul-work : tie.Need-mul-work Inv-loop μ-loop
 mul-work c = search needs
 
--- src/lib.rt:316:19
 slice-read-work : tie.Need-slice-read-work Inv-loop μ-loop
 slice-read-work c = search needs
 
--- src/lib.rt:316:9
 mul-work-2 : tie.Need-mul-work-2 Inv-loop μ-loop
 mul-work-2 c = search needs
 
--- src/lib.rt:316:9
 slice-write-work : tie.Need-slice-write-work Inv-loop μ-loop
 slice-write-work c = search needs
 
--- src/lib.rt:317:9
 add-i : tie.Need-add-i Inv-loop μ-loop
 add-i c = search needs
 
--- src/lib.rt:315:5
 loop-less : tie.Need-loop-less Inv-loop μ-loop
 loop-less c = omega arith
 
--- src/lib.rt:315:5
 loop-again : tie.Need-loop-again Inv-loop μ-loop
 loop-again c =
     let l = c .before .before in
     let s = l .before in one-halved (s .args .work .now) (l .loop .work) (s .args .w) (l .loop .i) (s .pre) (c .before .loop-test .taken) (l .loop .inv)
 
--- src/lib.rt:310:1
 same-length : tie.Need-same-length Inv-loop μ-loop
 same-length c = search needs
 
--- src/lib.rt:310:1
 returns : tie.Need-returns Inv-loop μ-loop
 returns c = all-halved (c .before .before .args .work .now) (c .before .loop .work) (c .before .before .args .w) (c .before .loop .i) (c .loop-test .left) (c .before .loop .inv)
 

@@ -1,14 +1,9 @@
 -- `step`.
-use mathlib.Core.Path.{_≡_, refl, sym, ap, _∙_, subst}
-use mathlib.Core.Logic.{⊎-elim}
-use Prim.Native.Nat.{ℕ, suc, _+_, _-_, _*_, _≤_, _<_}
+use mathlib.Core.Path.{sym}
+use Prim.Native.Nat.{_+_, _-_, _*_, _≤_}
 use native.Mathlib.Omega.{arith}
-use lib.ListN.{length, getD, set, take, drop, length-set}
 use borrow.Author.Needs.{needs}
-use Rattle.greedy.specs.Scratch.{Moves}
 use Rattle.definition.specs.Greedy.{expand}
-use Rattle.definition.specs.Metric.{fromQuery}
-use mathlib.Core.List.{List}
 use Rattle.greedy.proofs.Rows.{row-room, row-part, row-is}
 use Rattle.greedy.proofs.step.Statement.{statement}
 use Rattle.greedy.proofs.step.Tie as tie
@@ -20,43 +15,33 @@ use Rattle.greedy.proofs.expand.Reads as expand-reads
 row-at : (c : lts.After-shared-slice-known3 (expand-reads.Asked, expand-reads.Learnt) reads.Pre reads.Post) → let s = c .before .before .before .before .before in (s .args .id * s .args .p .width + s .args .p .width ≤ s .args .p .n * s .args .p .width) × (s .args .p .n * s .args .p .width ≤ 8388608)
 row-at c = let s = c .before .before .before .before .before in row-room _ _ _ (omega arith) (s .pre .0 .marked .nodes) (omega arith)
 
--- src/lib.rt:227:16
 mul-from : tie.Need-mul-from
 mul-from c = omega (arith, row-at c)
 
--- src/lib.rt:228:14
 add-to : tie.Need-add-to
 add-to c = omega (arith, row-at c)
 
--- src/lib.rt:229:43
 mul-expand : tie.Need-mul-expand
 mul-expand c = omega (arith, row-at (c .before .before))
 
--- src/lib.rt:229:43
 sub-expand : tie.Need-sub-expand
 sub-expand c = search needs
 
--- src/lib.rt:229:43
 part-expand-start : tie.Need-part-expand-start
 part-expand-start c = search needs
 
--- src/lib.rt:229:43
 part-expand-end : tie.Need-part-expand-end
 part-expand-end c = omega (arith, row-at (c .before .before))
 
--- src/lib.rt:229:5
 expand-requires : tie.Need-expand-requires
 expand-requires c κs = let s = c .before .before .before .before .before .before .before .before in (s .pre .0, (s .pre .1 .0, row-part _ (s .args .table .now) (s .args .id * s .args .p .width) (s .args .id * s .args .p .width + s .args .p .width) (omega (arith, row-at (c .before .before .before))) (s .pre .1 .1 .1)))
 
--- src/lib.rt:209:1
 same-length : tie.Need-same-length
 same-length c = search needs
 
--- src/lib.rt:209:1
 same-length-2 : tie.Need-same-length-2
 same-length-2 c = search needs
 
--- src/lib.rt:209:1
 returns : tie.Need-returns
 returns c = let s = c .before .before .before .before .before .before .before .before .before .before .before .before .before in rw (sym (row-is (s .args .p .width) (s .args .table .now) (s .args .id))) (c .before .before .before .before .expand .ensures)
 

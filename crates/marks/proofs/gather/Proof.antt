@@ -18,31 +18,24 @@ Inv-loop words₀ n epoch v ids seen₀ k₀ words seen k = (k ≤ length ids) �
 abbrev μ-loop : tie.MeasureT-loop
 μ-loop words₀ n epoch v ids seen₀ k₀ words seen k = length ids - k
 
--- src/lib.rt:48:5
 loop-holds : tie.Need-loop-holds Inv-loop μ-loop
 loop-holds c = (omega arith, gathers-none _ _ _ _ (c .before .before .pre .0))
 
--- src/lib.rt:49:18
 mul-id : tie.Need-mul-id Inv-loop μ-loop
 mul-id c = search needs
 
--- src/lib.rt:49:18
 shared-slice-read-id : tie.Need-shared-slice-read-id Inv-loop μ-loop
 shared-slice-read-id c = search needs
 
--- src/lib.rt:51:13
 note-requires : tie.Need-note-requires Inv-loop μ-loop
 note-requires c κs = let l = c .before .before .before .before in let s = l .before .before .before in (l .loop .inv .1 .marked, s .pre .1 (l .loop .k) (omega arith) (c .before .if1 .taken))
 
--- src/lib.rt:53:9
 add-k : tie.Need-add-k Inv-loop μ-loop
 add-k c = search needs
 
--- src/lib.rt:48:5
 loop-less : tie.Need-loop-less Inv-loop μ-loop
 loop-less c = omega arith
 
--- src/lib.rt:48:5
 loop-again : tie.Need-loop-again Inv-loop μ-loop
 loop-again c =
     let l = c .before .before .before in
@@ -52,11 +45,9 @@ loop-again c =
           (λ w. rw (w .1, w .2) (gather-pad _ _ _ _ (s .args .ids .now) _ _ (l .loop .k) (l .loop .inv .1) (omega arith) (w .0 .left))) (c .if1 .came),
     )
 
--- src/lib.rt:41:1
 same-length : tie.Need-same-length Inv-loop μ-loop
 same-length c = search needs
 
--- src/lib.rt:41:1
 returns : tie.Need-returns Inv-loop μ-loop
 returns c = gather-end _ _ _ _ _ _ _ (c .before .loop .k) (c .before .loop .inv .1) (omega arith)
 

@@ -8,35 +8,27 @@ use Rattle.marks.proofs.next_epoch.Reads as reads
 use Rattle.marks.proofs.next_epoch.Lts as lts
 use Rattle.laws.proofs.clear_words.Reads as clear-words-reads
 
--- src/lib.rt:18:27
 sub-clear-words : tie.Need-sub-clear-words
 sub-clear-words c = search needs
 
--- src/lib.rt:18:27
 part-clear-words-start : tie.Need-part-clear-words-start
 part-clear-words-start c = search needs
 
--- src/lib.rt:18:27
 part-clear-words-end : tie.Need-part-clear-words-end
 part-clear-words-end c = search needs
 
--- src/lib.rt:18:9
 clear-words-requires : tie.Need-clear-words-requires
 clear-words-requires c κs = search needs
 
--- src/lib.rt:19:9
 same-length : tie.Need-same-length
 same-length c = search needs
 
--- src/lib.rt:19:9
 returns : tie.Need-returns
 returns c = let s = c .before .before .before .before .before .before in fresh-clear (s .args .n) (s .args .words .now) (s .args .epoch) (omega arith) (c .before .before .before .before .if1 .taken) (c .before .before .clear-words .last .0) (c .before .before .clear-words .ensures)
 
--- src/lib.rt:21:5
 add-result : tie.Need-add-result
 add-result c = search needs
 
--- src/lib.rt:13:1
 returns-2 : tie.Need-returns-2
 returns-2 c = fresh-more _ _ _ (omega arith) (c .before .before .pre .1) (c .if1 .left)
 

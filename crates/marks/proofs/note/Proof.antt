@@ -13,47 +13,36 @@ use Rattle.marks.proofs.note.Lts as lts
 free : (c : tie.Else1) → c .before .before .args .v < c .before .before .args .n
 free c = let s = c .before .before in unfull _ _ _ _ (s .pre .0) _ (s .pre .1) (c .if1 .left)
 
--- src/lib.rt:31:8
 mul-if1 : tie.Need-mul-if1
 mul-if1 c = search needs
 
--- src/lib.rt:31:8
 slice-read-if1 : tie.Need-slice-read-if1
 slice-read-if1 c = search needs
 
--- src/lib.rt:32:9
 returns : tie.Need-returns
 returns c = let s = c .before .before in note-old _ _ _ _ (s .pre .0) _ (s .pre .1) (c .if1 .taken)
 
--- src/lib.rt:34:14
 add-at : tie.Need-add-at
 add-at c = omega (arith, free c)
 
--- src/lib.rt:35:5
 mul-words : tie.Need-mul-words
 mul-words c = search needs
 
--- src/lib.rt:35:5
 slice-write-words : tie.Need-slice-write-words
 slice-write-words c = search needs
 
--- src/lib.rt:36:5
 mul-words-2 : tie.Need-mul-words-2
 mul-words-2 c = omega (arith, free c)
 
--- src/lib.rt:36:5
 slice-write-words-2 : tie.Need-slice-write-words-2
 slice-write-words-2 c = let h = free c in simp length-set (omega arith)
 
--- src/lib.rt:37:5
 add-result : tie.Need-add-result
 add-result c = omega (arith, free c)
 
--- src/lib.rt:25:1
 same-length : tie.Need-same-length
 same-length c = search needs
 
--- src/lib.rt:25:1
 returns-2 : tie.Need-returns-2
 returns-2 c = let s = c .before .before in note-new _ _ _ _ (s .pre .0) _ (s .pre .1) (c .if1 .left)
 

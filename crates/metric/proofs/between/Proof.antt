@@ -9,31 +9,24 @@ use Rattle.metric.proofs.between.Reads as reads
 use Rattle.metric.proofs.between.Lts as lts
 use Rattle.metric.proofs.from_query.Reads as from-query-reads
 
--- src/lib.rt:73:14
 mul-at : tie.Need-mul-at
 mul-at c = search needs
 
--- src/lib.rt:74:15
 add-end : tie.Need-add-end
 add-end c = search needs
 
--- src/lib.rt:75:30
 sub-from-query : tie.Need-sub-from-query
 sub-from-query c = search needs
 
--- src/lib.rt:75:30
 part-from-query-start : tie.Need-part-from-query-start
 part-from-query-start c = search needs
 
--- src/lib.rt:75:30
 part-from-query-end : tie.Need-part-from-query-end
 part-from-query-end c = search needs
 
--- src/lib.rt:75:5
 from-query-requires : tie.Need-from-query-requires
 from-query-requires c κs = search needs
 
--- src/lib.rt:67:1
 returns : tie.Need-returns
 unfolding between fromQuery vector
 returns c = rw (add-sub-cancel-left) at (c .from-query .ensures)

@@ -12,39 +12,30 @@ use Rattle.answer.proofs.measured.Reads as measured-reads
 use Rattle.answer.proofs.refused.Reads as refused-reads
 use Rattle.metric.proofs.summed.Reads as summed-reads
 
--- src/lib.rt:44:9
 refused-requires : tie.Need-refused-requires
 refused-requires c κs = search needs
 
--- src/lib.rt:44:9
 returns : tie.Need-returns
 returns c = c .refused .ensures ∙ sym (distance-none _ _ (c .before .if1 .taken))
 
--- src/lib.rt:47:9
 refused-requires-2 : tie.Need-refused-requires-2
 refused-requires-2 c κs = search needs
 
--- src/lib.rt:47:9
 returns-2 : tie.Need-returns-2
 returns-2 c = c .refused2 .ensures ∙ sym (distance-long _ _ (c .before .if2 .taken))
 
--- src/lib.rt:50:9
 refused-requires-3 : tie.Need-refused-requires-3
 refused-requires-3 c κs = search needs
 
--- src/lib.rt:50:9
 returns-3 : tie.Need-returns-3
 returns-3 c = c .refused3 .ensures ∙ sym (distance-unequal _ _ (c .before .before .before .if1 .left) (c .before .before .if2 .left) (c .before .if3 .taken))
 
--- src/lib.rt:52:22
 summed-requires : tie.Need-summed-requires
 summed-requires c κs = search needs
 
--- src/lib.rt:52:5
 measured-requires : tie.Need-measured-requires
 measured-requires c κs = search needs
 
--- src/lib.rt:39:1
 returns-4 : tie.Need-returns-4
 returns-4 c =
     c .measured .ensures ∙ ap (λ v. answer 0 0 0 0 v) (c .before .summed .ensures .is)

@@ -9,31 +9,24 @@ use Rattle.metric.proofs.from_query.Reads as reads
 use Rattle.metric.proofs.from_query.Lts as lts
 use Rattle.metric.proofs.summed.Reads as summed-reads
 
--- src/lib.rt:61:14
 mul-at : tie.Need-mul-at
 mul-at c = search needs
 
--- src/lib.rt:62:15
 add-end : tie.Need-add-end
 add-end c = search needs
 
--- src/lib.rt:63:19
 sub-summed : tie.Need-sub-summed
 sub-summed c = search needs
 
--- src/lib.rt:63:19
 part-summed-start : tie.Need-part-summed-start
 part-summed-start c = search needs
 
--- src/lib.rt:63:19
 part-summed-end : tie.Need-part-summed-end
 part-summed-end c = search needs
 
--- src/lib.rt:63:5
 summed-requires : tie.Need-summed-requires
 summed-requires c κs = search needs
 
--- src/lib.rt:56:1
 returns : tie.Need-returns
 unfolding fromQuery vector
 returns c = rw (add-sub-cancel-left) at (c .summed .ensures)

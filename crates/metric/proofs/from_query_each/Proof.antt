@@ -17,51 +17,39 @@ Inv-loop dim vectors query ids dists₀ j₀ dists j = Measured (fromQuery dim v
 abbrev μ-loop : tie.MeasureT-loop
 μ-loop dim vectors query ids dists₀ j₀ dists j = length ids - j
 
--- src/lib.rt:94:5
 loop-holds : tie.Need-loop-holds Inv-loop μ-loop
 loop-holds c = let s = c .before .before .before .before in measured-none (fromQuery (s .args .dim) (s .args .vectors .now) (s .args .query .now)) _ _ (s .pre .1 .1)
 
--- src/lib.rt:95:52
 mul-from-query : tie.Need-mul-from-query Inv-loop μ-loop
 mul-from-query c = search needs
 
--- src/lib.rt:95:52
 shared-slice-read-from-query : tie.Need-shared-slice-read-from-query Inv-loop μ-loop
 shared-slice-read-from-query c = search needs
 
--- src/lib.rt:95:52
 cast-from-query : tie.Need-cast-from-query Inv-loop μ-loop
 cast-from-query c = omega (arith, c .shared-slice-known4 .given (c .before .before .loop .j))
 
--- src/lib.rt:95:20
 from-query-requires : tie.Need-from-query-requires Inv-loop μ-loop
 from-query-requires c κs = let l = c .before .before in let s = l .before .before .before .before .before in (s .pre .0 (l .loop .j) (omega arith), s .pre .1 .0)
 
--- src/lib.rt:95:9
 mul-dists : tie.Need-mul-dists Inv-loop μ-loop
 mul-dists c = search needs
 
--- src/lib.rt:95:9
 slice-write-dists : tie.Need-slice-write-dists Inv-loop μ-loop
 slice-write-dists c = search needs
 
--- src/lib.rt:96:9
 add-j : tie.Need-add-j Inv-loop μ-loop
 add-j c = search needs
 
--- src/lib.rt:94:5
 loop-less : tie.Need-loop-less Inv-loop μ-loop
 loop-less c = omega arith
 
--- src/lib.rt:94:5
 loop-again : tie.Need-loop-again Inv-loop μ-loop
 loop-again c = let l = c .before .before .before in let s = l .before .before .before .before .before in measured-more (fromQuery (s .args .dim) (s .args .vectors .now) (s .args .query .now)) _ _ (l .loop .j) (l .loop .inv) (omega arith) _ (c .from-query .ensures)
 
--- src/lib.rt:81:1
 same-length : tie.Need-same-length Inv-loop μ-loop
 same-length c = search needs
 
--- src/lib.rt:81:1
 returns : tie.Need-returns Inv-loop μ-loop
 returns c = let l = c .before in let s = l .before .before .before .before .before in measured-all (fromQuery (s .args .dim) (s .args .vectors .now) (s .args .query .now)) _ _ (l .loop .j) (l .loop .inv) (omega arith)
 

@@ -20,59 +20,45 @@ Inv-loop from dfrom len count ids₀ dists₀ i₀ ids dists i = (i ≤ count) �
 abbrev μ-loop : tie.MeasureT-loop
 μ-loop from dfrom len count ids₀ dists₀ i₀ ids dists i = count - i
 
--- src/lib.rt:49:5
 loop-holds : tie.Need-loop-holds Inv-loop μ-loop
 loop-holds c = let s = c in (omega arith, copy-start _ _ _, copy-start _ _ _)
 
--- src/lib.rt:50:20
 sub-last : tie.Need-sub-last Inv-loop μ-loop
 sub-last c = search needs
 
--- src/lib.rt:51:18
 sub-at : tie.Need-sub-at Inv-loop μ-loop
 sub-at c = search needs
 
--- src/lib.rt:52:18
 mul-ids : tie.Need-mul-ids Inv-loop μ-loop
 mul-ids c = search needs
 
--- src/lib.rt:52:18
 shared-slice-read-ids : tie.Need-shared-slice-read-ids Inv-loop μ-loop
 shared-slice-read-ids c = search needs
 
--- src/lib.rt:52:9
 mul-ids-2 : tie.Need-mul-ids-2 Inv-loop μ-loop
 mul-ids-2 c = search needs
 
--- src/lib.rt:52:9
 slice-write-ids : tie.Need-slice-write-ids Inv-loop μ-loop
 slice-write-ids c = search needs
 
--- src/lib.rt:53:20
 mul-dists : tie.Need-mul-dists Inv-loop μ-loop
 mul-dists c = search needs
 
--- src/lib.rt:53:20
 shared-slice-read-dists : tie.Need-shared-slice-read-dists Inv-loop μ-loop
 shared-slice-read-dists c = search needs
 
--- src/lib.rt:53:9
 mul-dists-2 : tie.Need-mul-dists-2 Inv-loop μ-loop
 mul-dists-2 c = search needs
 
--- src/lib.rt:53:9
 slice-write-dists : tie.Need-slice-write-dists Inv-loop μ-loop
 slice-write-dists c = search needs
 
--- src/lib.rt:54:9
 add-i : tie.Need-add-i Inv-loop μ-loop
 add-i c = search needs
 
--- src/lib.rt:49:5
 loop-less : tie.Need-loop-less Inv-loop μ-loop
 loop-less c = omega arith
 
--- src/lib.rt:49:5
 loop-again : tie.Need-loop-again Inv-loop μ-loop
 loop-again c = let s = c .before .before .before .before in let l = c .before .before .before .loop in (
   omega arith,
@@ -80,15 +66,12 @@ loop-again c = let s = c .before .before .before .before in let l = c .before .b
   copy-step nan (s .args .dfrom .now) (s .args .dists .now) (s .args .len) (l .i) _ (omega arith) (omega arith) (omega arith) (l .inv .2),
 )
 
--- src/lib.rt:36:1
 same-length : tie.Need-same-length Inv-loop μ-loop
 same-length c = c .before .loop .inv .1 .size
 
--- src/lib.rt:36:1
 same-length-2 : tie.Need-same-length-2 Inv-loop μ-loop
 same-length-2 c = c .before .loop .inv .2 .size
 
--- src/lib.rt:36:1
 returns : tie.Need-returns Inv-loop μ-loop
 returns c = let s = c .before .before in let l = c .before .loop in
     let q : l .i ≡ s .args .count = omega arith in

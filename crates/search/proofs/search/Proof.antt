@@ -18,27 +18,21 @@ use Rattle.search.proofs.search_beside.Reads as search-beside-reads
 abbrev asked : tie.Start → SearchCall
 asked s = callOf (s .args .n) (s .args .dim) (s .args .vectors .now) (s .args .degree) (s .args .beam) (s .args .k) (s .args .start) (s .args .table .now) (s .args .query .now) (s .args .words .now) (s .args .floats .now) (s .args .ids .now) (s .args .dists .now)
 
--- src/lib.rt:188:5
 search-beside-requires : tie.Need-search-beside-requires
 search-beside-requires c κs = search needs
 
--- src/lib.rt:169:1
 same-length : tie.Need-same-length
 same-length c = search needs
 
--- src/lib.rt:169:1
 same-length-2 : tie.Need-same-length-2
 same-length-2 c = search needs
 
--- src/lib.rt:169:1
 same-length-3 : tie.Need-same-length-3
 same-length-3 c = search needs
 
--- src/lib.rt:169:1
 same-length-4 : tie.Need-same-length-4
 same-length-4 c = search needs
 
--- src/lib.rt:169:1
 returns : tie.Need-returns
 returns c = meets (asked (c .before .before .before .before .before .before .before .before .before .before .before .before .before .before .before .before .before .before .before .before)) _ (c .before .before .before .before .before .before .before .before .search-beside .ensures .is)
 

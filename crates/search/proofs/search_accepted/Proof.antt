@@ -24,113 +24,87 @@ use Rattle.search.proofs.wipe.Reads as wipe-reads
 abbrev asked : tie.Start → SearchCall
 asked s = callOf (s .args .n) (s .args .dim) (s .args .vectors .now) (s .args .degree) (s .args .beam) (s .args .k) (s .args .start) (s .args .table .now) (s .args .query .now) (s .args .words .now) (s .args .floats .now) (s .args .ids .now) (s .args .dists .now)
 
--- src/lib.rt:90:9
 raised-requires : tie.Need-raised-requires
 raised-requires c κs = search needs
 
--- src/lib.rt:98:24
 sub-clear-words : tie.Need-sub-clear-words
 sub-clear-words c = search needs
 
--- src/lib.rt:98:24
 part-clear-words-start : tie.Need-part-clear-words-start
 part-clear-words-start c = search needs
 
--- src/lib.rt:98:24
 part-clear-words-end : tie.Need-part-clear-words-end
 part-clear-words-end c = search needs
 
--- src/lib.rt:98:5
 clear-words-requires : tie.Need-clear-words-requires
 clear-words-requires c κs = search needs
 
--- src/lib.rt:99:9
 greedy-requires : tie.Need-greedy-requires
 greedy-requires c κs = (
   start-room (asked (c .before .before .before .before .before .before .before .before .before .before .before .before .before .before)) (c .before .before .before .before .before .before .before .before .before .before .before .before .before .before .pre) _ (c .before .before .before .before .clear-words .ensures) _ (c .before .before .before .before .before .before .raised .ensures),
   (start-measures (asked (c .before .before .before .before .before .before .before .before .before .before .before .before .before .before)) (c .before .before .before .before .before .before .before .before .before .before .before .before .before .before .pre) _ (c .before .before .before .before .clear-words .ensures) _ (c .before .before .before .before .before .before .raised .ensures), ((c .before .before .before .before .before .before .before .before .before .before .before .before .before .before .pre .table-is, omega (arith, c .before .before .before .before .before .before .before .before .before .before .before .before .before .before .pre .degree-few), c .before .before .before .before .before .before .before .before .before .before .before .before .before .before .pre .start-in), c .before .before .before .before .before .before .before .before .before .before .before .before .before .before .pre .rows)),
 )
 
--- src/lib.rt:101:9
 least-requires : tie.Need-least-requires
 least-requires c κs = search needs
 
--- src/lib.rt:102:13
 mul-w : tie.Need-mul-w
 mul-w c = search needs
 
--- src/lib.rt:103:14
 add-we : tie.Need-add-we
 add-we c = search needs
 
--- src/lib.rt:104:14
 add-fe : tie.Need-add-fe
 add-fe c = search needs
 
--- src/lib.rt:105:18
 mul-list-answers : tie.Need-mul-list-answers
 mul-list-answers c = search needs
 
--- src/lib.rt:105:18
 sub-list-answers : tie.Need-sub-list-answers
 sub-list-answers c = search needs
 
--- src/lib.rt:105:18
 part-list-answers-start : tie.Need-part-list-answers-start
 part-list-answers-start c = search needs
 
--- src/lib.rt:105:18
 part-list-answers-end : tie.Need-part-list-answers-end
 part-list-answers-end c = search needs
 
--- src/lib.rt:105:33
 mul-list-answers-2 : tie.Need-mul-list-answers-2
 mul-list-answers-2 c = search needs
 
--- src/lib.rt:105:33
 sub-list-answers-2 : tie.Need-sub-list-answers-2
 sub-list-answers-2 c = search needs
 
--- src/lib.rt:105:33
 part-list-answers-start-2 : tie.Need-part-list-answers-start-2
 part-list-answers-start-2 c = search needs
 
--- src/lib.rt:105:33
 part-list-answers-end-2 : tie.Need-part-list-answers-end-2
 part-list-answers-end-2 c = search needs
 
--- src/lib.rt:105:5
 list-answers-requires : tie.Need-list-answers-requires
 list-answers-requires c κs = (
   list-from (asked (c .before .before .before .before .before .before .before .before .before .before .before .before .before .before .before .before .before .before .before .before .before .before .before .before .before .before)) (c .before .before .before .before .before .before .before .before .before .before .before .before .before .before .before .before .before .before .before .before .before .before .before .before .before .before .pre) _ (c .before .before .before .before .before .before .before .before .before .before .before .before .before .before .before .before .clear-words .ensures) _ (c .before .before .before .before .before .before .before .before .before .before .before .before .before .before .before .before .before .before .raised .ensures) _ _ _ _ _ (c .before .before .before .before .before .before .before .before .before .before .before .greedy .ensures) _ (c .before .before .before .before .before .before .least .ensures),
   list-to (asked (c .before .before .before .before .before .before .before .before .before .before .before .before .before .before .before .before .before .before .before .before .before .before .before .before .before .before)) (c .before .before .before .before .before .before .before .before .before .before .before .before .before .before .before .before .before .before .before .before .before .before .before .before .before .before .pre) _ (c .before .before .before .before .before .before .before .before .before .before .before .before .before .before .before .before .clear-words .ensures) _ (c .before .before .before .before .before .before .before .before .before .before .before .before .before .before .before .before .before .before .raised .ensures) _ _ _ _ _ (c .before .before .before .before .before .before .before .before .before .before .before .greedy .ensures) _ (c .before .before .before .before .before .before .least .ensures),
 )
 
--- src/lib.rt:106:5
 wipe-requires : tie.Need-wipe-requires
 wipe-requires c κs = wipe-room (asked (c .before .before .before .before .before .before .before .before .before .before .before .before .before .before .before .before .before .before .before .before .before .before .before .before .before .before .before .before .before .before .before .before .before)) (c .before .before .before .before .before .before .before .before .before .before .before .before .before .before .before .before .before .before .before .before .before .before .before .before .before .before .before .before .before .before .before .before .before .pre) _ (c .before .before .before .before .before .before .before .before .before .before .before .before .before .before .before .before .before .before .before .before .before .before .before .clear-words .ensures) _ (c .before .before .before .before .before .before .before .before .before .before .before .before .before .before .before .before .before .before .before .before .before .before .before .before .before .raised .ensures) _ _ _ _ _ (c .before .before .before .before .before .before .before .before .before .before .before .before .before .before .before .before .before .before .greedy .ensures) _ (c .before .before .before .before .before .before .before .before .before .before .before .before .before .least .ensures)
 
--- src/lib.rt:107:5
 found-requires : tie.Need-found-requires
 found-requires c κs = search needs
 
--- src/lib.rt:70:1
 same-length : tie.Need-same-length
 same-length c = search (needs, c .before .before .before .before .before .before .before .before .before .before .before .before .before .before .before .before .before .before .before .before .before .before .before .before .greedy .kept .0, front (asked (c .before .before .before .before .before .before .before .before .before .before .before .before .before .before .before .before .before .before .before .before .before .before .before .before .before .before .before .before .before .before .before .before .before .before .before .before .before .before .before)) (c .before .before .before .before .before .before .before .before .before .before .before .before .before .before .before .before .before .before .before .before .before .before .before .before .before .before .before .before .before .before .before .before .before .before .before .before .before .before .before .pre) _ (c .before .before .before .before .before .before .before .before .before .before .before .before .before .before .before .before .before .before .before .before .before .before .before .before .before .before .before .before .before .clear-words .ensures) _ (c .before .before .before .before .before .before .before .before .before .before .before .before .before .before .before .before .before .before .before .before .before .before .before .before .before .before .before .before .before .before .before .raised .ensures) .size)
 
--- src/lib.rt:70:1
 same-length-2 : tie.Need-same-length-2
 same-length-2 c = search needs
 
--- src/lib.rt:70:1
 same-length-3 : tie.Need-same-length-3
 same-length-3 c = search needs
 
--- src/lib.rt:70:1
 same-length-4 : tie.Need-same-length-4
 same-length-4 c = search needs
 
--- src/lib.rt:70:1
 returns : tie.Need-returns
 returns c = done (asked (c .before .before .before .before .before .before .before .before .before .before .before .before .before .before .before .before .before .before .before .before .before .before .before .before .before .before .before .before .before .before .before .before .before .before .before .before .before .before .before)) (c .before .before .before .before .before .before .before .before .before .before .before .before .before .before .before .before .before .before .before .before .before .before .before .before .before .before .before .before .before .before .before .before .before .before .before .before .before .before .before .pre) _ (c .before .before .before .before .before .before .before .before .before .before .before .before .before .before .before .before .before .before .before .before .before .before .before .before .before .before .before .before .before .clear-words .ensures) _ (c .before .before .before .before .before .before .before .before .before .before .before .before .before .before .before .before .before .before .before .before .before .before .before .before .before .before .before .before .before .before .before .raised .ensures) _ _ _ _ _ (c .before .before .before .before .before .before .before .before .before .before .before .before .before .before .before .before .before .before .before .before .before .before .before .before .greedy .ensures) _ (c .before .before .before .before .before .before .before .before .before .before .before .before .before .before .before .before .before .before .before .least .ensures) _ _ (c .before .before .before .before .before .before .before .before .before .before .before .before .list-answers .ensures) _ _ (c .before .before .before .before .before .wipe .ensures) _ (c .found .ensures)
 

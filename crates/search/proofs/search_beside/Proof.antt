@@ -20,39 +20,30 @@ use Rattle.search.proofs.search_accepted.Reads as search-accepted-reads
 abbrev asked : tie.Start → SearchCall
 asked s = callOf (s .args .n) (s .args .dim) (s .args .vectors .now) (s .args .degree) (s .args .beam) (s .args .k) (s .args .start) (s .args .table .now) (s .args .query .now) (s .args .words .now) (s .args .floats .now) (s .args .ids .now) (s .args .dists .now)
 
--- src/lib.rt:132:9
 search-number-requires : tie.Need-search-number-requires
 search-number-requires c κs = search needs
 
--- src/lib.rt:149:9
 refused-requires : tie.Need-refused-requires
 refused-requires c κs = search needs
 
--- src/lib.rt:149:9
 returns : tie.Need-returns
 returns c = beside-refused (asked (c .before .before .before .before .before .before .before .before .before .before)) _ _ (c .before .before .search-number .ensures) (c .before .if1 .taken) _ (c .refused .ensures)
 
--- src/lib.rt:151:5
 search-accepted-requires : tie.Need-search-accepted-requires
 search-accepted-requires c κs = beside-accepted (asked (c .before .before .before .before .before .before .before .before .before .before .before .before .before)) _ _ (c .before .before .before .before .before .search-number .ensures) (c .before .before .before .before .if1 .left) .0
 
--- src/lib.rt:111:1
 same-length : tie.Need-same-length
 same-length c = search needs
 
--- src/lib.rt:111:1
 same-length-2 : tie.Need-same-length-2
 same-length-2 c = search needs
 
--- src/lib.rt:111:1
 same-length-3 : tie.Need-same-length-3
 same-length-3 c = search needs
 
--- src/lib.rt:111:1
 same-length-4 : tie.Need-same-length-4
 same-length-4 c = search needs
 
--- src/lib.rt:111:1
 returns-2 : tie.Need-returns-2
 returns-2 c = beside-done (asked (c .before .before .before .before .before .before .before .before .before .before .before .before .before .before .before .before .before .before .before .before .before .before)) _ _ (c .before .before .before .before .before .before .before .before .before .before .before .before .before .before .search-number .ensures) (c .before .before .before .before .before .before .before .before .before .before .before .before .before .if1 .left) _ (c .before .before .before .before .before .before .before .before .search-accepted .ensures)
 

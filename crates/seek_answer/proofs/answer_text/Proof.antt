@@ -14,71 +14,54 @@ use Rattle.seek_answer.proofs.answer_values.Reads as answer-values-read
 use Rattle.seek_print.proofs.put_refused.Reads as put-refused-reads
 use Rattle.seek_text.proofs.read_values.Reads as read-values-reads
 
--- src/lib.rt:81:9
 put-refused-requires : tie.Need-put-refused-requires
 put-refused-requires c κs = search needs
 
--- src/lib.rt:81:9
 same-length : tie.Need-same-length
 same-length c = search needs
 
--- src/lib.rt:81:9
 returns : tie.Need-returns
 returns c = text-long _ _ _ _ (c .before .before .before .before .if1 .taken) (c .before .before .put-refused .ensures)
 
--- src/lib.rt:83:9
 read-values-requires : tie.Need-read-values-requires
 read-values-requires c κs = search needs
 
--- src/lib.rt:84:19
 sub-answer-values : tie.Need-sub-answer-values
 sub-answer-values c = search needs
 
--- src/lib.rt:84:19
 part-answer-values-start : tie.Need-part-answer-values-start
 part-answer-values-start c = search needs
 
--- src/lib.rt:84:19
 part-answer-values-end : tie.Need-part-answer-values-end
 part-answer-values-end c = search needs
 
--- src/lib.rt:84:5
 answer-values-requires : tie.Need-answer-values-requires
 answer-values-requires c κs = search needs
 
--- src/lib.rt:65:1
 same-length-2 : tie.Need-same-length-2
 same-length-2 c = search needs
 
--- src/lib.rt:65:1
 same-length-3 : tie.Need-same-length-3
 same-length-3 c = search needs
 
--- src/lib.rt:65:1
 same-length-4 : tie.Need-same-length-4
 same-length-4 c = search needs
 
--- src/lib.rt:65:1
 same-length-5 : tie.Need-same-length-5
 same-length-5 c = search needs
 
--- src/lib.rt:65:1
 same-length-6 : tie.Need-same-length-6
 same-length-6 c = search needs
 
--- src/lib.rt:65:1
 same-length-7 : tie.Need-same-length-7
 same-length-7 c = search needs
 
--- src/lib.rt:65:1
 same-length-8 : tie.Need-same-length-8
 same-length-8 c = search needs
 
--- src/lib.rt:65:1
 same-length-9 : tie.Need-same-length-9
 same-length-9 c = search needs
 
--- src/lib.rt:65:1
 returns-2 : tie.Need-returns-2
 returns-2 c = text-read _ _ _ _ _ _ (c .before .before .before .before .before .before .before .before .before .before .before .before .before .before .before .before .before .before .before .before .before .before .before .before .before .before .before .before .if1 .left) (c .before .before .before .before .before .before .before .before .before .before .before .before .before .before .before .before .before .before .before .before .before .before .before .before .before .before .read-values .ensures) (c .before .before .before .before .before .before .before .before .before .before .before .before .before .before .answer-values .ensures)
 

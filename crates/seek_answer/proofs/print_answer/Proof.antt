@@ -13,55 +13,42 @@ use Rattle.seek_answer.proofs.print_answer.Lts as lts
 use Rattle.io.proofs.write_all.Reads as write-all-reads
 use Rattle.seek_answer.proofs.answer_text.Reads as answer-text-reads
 
--- src/lib.rt:124:9
 slice-aggregate-answer-text : tie.Need-slice-aggregate-answer-text
 slice-aggregate-answer-text c = search needs
 
--- src/lib.rt:125:9
 slice-aggregate-answer-text-2 : tie.Need-slice-aggregate-answer-text-2
 slice-aggregate-answer-text-2 c = search needs
 
--- src/lib.rt:126:9
 slice-aggregate-answer-text-3 : tie.Need-slice-aggregate-answer-text-3
 slice-aggregate-answer-text-3 c = search needs
 
--- src/lib.rt:127:9
 slice-aggregate-answer-text-4 : tie.Need-slice-aggregate-answer-text-4
 slice-aggregate-answer-text-4 c = search needs
 
--- src/lib.rt:128:9
 slice-aggregate-answer-text-5 : tie.Need-slice-aggregate-answer-text-5
 slice-aggregate-answer-text-5 c = search needs
 
--- src/lib.rt:129:9
 slice-aggregate-answer-text-6 : tie.Need-slice-aggregate-answer-text-6
 slice-aggregate-answer-text-6 c = search needs
 
--- src/lib.rt:130:9
 slice-aggregate-answer-text-7 : tie.Need-slice-aggregate-answer-text-7
 slice-aggregate-answer-text-7 c = search needs
 
--- src/lib.rt:131:9
 slice-aggregate-answer-text-8 : tie.Need-slice-aggregate-answer-text-8
 slice-aggregate-answer-text-8 c = search needs
 
--- src/lib.rt:122:9
 answer-text-requires : tie.Need-answer-text-requires
 answer-text-requires c κs = search needs
 
--- src/lib.rt:133:34
 array-share-prefix-out : tie.Need-array-share-prefix-out
 array-share-prefix-out c = put-fits _ _ _ _ (c .before .before .before .before .before .before .before .before .answer-text .ensures)
 
--- src/lib.rt:133:34
 slice-aggregate-write-all : tie.Need-slice-aggregate-write-all
 slice-aggregate-write-all c = put-length _ _ _ _ (c .before .before .before .before .before .before .before .before .before .answer-text .ensures)
 
--- src/lib.rt:133:5
 write-all-requires : tie.Need-write-all-requires
 write-all-requires c κs = search needs
 
--- src/lib.rt:113:1
 returns : tie.Need-returns
 returns c = search needs
 

@@ -18,43 +18,33 @@ Inv-loop texts at₀ at = Unit {0}
 abbrev μ-loop : tie.MeasureT-loop
 μ-loop texts at₀ at = length texts - at
 
--- src/main.rt:24:5
 loop-holds : tie.Need-loop-holds Inv-loop μ-loop
 loop-holds c = tt
 
--- src/main.rt:25:13
 text-end-requires : tie.Need-text-end-requires Inv-loop μ-loop
 text-end-requires c κs = search needs
 
--- src/main.rt:26:35
 sub-print-answer : tie.Need-sub-print-answer Inv-loop μ-loop
 sub-print-answer c = search needs
 
--- src/main.rt:26:35
 part-print-answer-start : tie.Need-part-print-answer-start Inv-loop μ-loop
 part-print-answer-start c = search needs
 
--- src/main.rt:26:35
 part-print-answer-end : tie.Need-part-print-answer-end Inv-loop μ-loop
 part-print-answer-end c = search needs
 
--- src/main.rt:26:9
 print-answer-requires : tie.Need-print-answer-requires Inv-loop μ-loop
 print-answer-requires c κs = search needs
 
--- src/main.rt:27:14
 add-at : tie.Need-add-at Inv-loop μ-loop
 add-at c = search needs
 
--- src/main.rt:24:5
 loop-less : tie.Need-loop-less Inv-loop μ-loop
 loop-less c = omega arith
 
--- src/main.rt:24:5
 loop-again : tie.Need-loop-again Inv-loop μ-loop
 loop-again c = tt
 
--- src/main.rt:22:1
 returns : tie.Need-returns Inv-loop μ-loop
 returns c = search needs
 

@@ -11,11 +11,9 @@ use Rattle.seek_print.proofs.whole_number.Tie as tie
 use Rattle.seek_print.proofs.whole_number.Reads as reads
 use Rattle.seek_print.proofs.whole_number.Lts as lts
 
--- src/lib.rt:70:5
 float-to-int-result : tie.Need-float-to-int-result
 float-to-int-result c = count-in-unsigned _ (c .before .pre)
 
--- src/lib.rt:66:1
 returns : tie.Need-returns
 returns c = search needs
 
