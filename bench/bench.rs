@@ -237,8 +237,7 @@ fn searches(i: &Input, table: &[u32], repeats: usize) {
     let (mut ids, mut dists) = (vec![0; K], vec![0.0; K]);
     let mut call = |search: Found, query: &[u8]| {
         let call = ours::Search { n, dim: DIM, vectors, degree, beam: BEAM, k: K, start, table, query };
-        let answer = black_box(search(call, &mut words, &mut floats, &mut ids, &mut dists));
-        (answer, ids[0], dists[K - 1])
+        black_box(search(call, &mut words, &mut floats, &mut ids, &mut dists))
     };
     let theirs = |query| probe::Search { dim: DIM, vectors, degree, table, query, start, beam: BEAM };
     agree(i, theirs, table);
@@ -246,10 +245,20 @@ fn searches(i: &Input, table: &[u32], repeats: usize) {
     println!("{:<28} 000 {:.1}", "  distances of a search", probe::distances() as f64 / asked);
     // refused by 11, so after the whole of the checks before it, the pass over the table for 8 among them
     let long = vec![0; DIM + 1];
-    assert_eq!(call(ours::search, &long).0.number, 11);
-    let whole = best(repeats, || i.queries.iter().for_each(|q| drop(black_box(call(ours::search, q)))));
-    let accepted = best(repeats, || i.queries.iter().for_each(|q| drop(black_box(call(unchecked::search, q)))));
-    let checks = best(repeats, || i.queries.iter().for_each(|_| drop(black_box(call(ours::search, &long)))));
+    assert_eq!(call(ours::search, &long).number, 11);
+    let mut each_query = |search: Found| {
+        best(repeats, || {
+            for query in &i.queries {
+                call(search, query);
+            }
+        })
+    };
+    let (whole, accepted) = (each_query(ours::search), each_query(unchecked::search));
+    let checks = best(repeats, || {
+        for _ in &i.queries {
+            call(ours::search, &long);
+        }
+    });
     let time = best(repeats, || i.queries.iter().for_each(|q| drop(black_box(probe::found(theirs(q), Bytes)))));
     let each = 1e6 / asked;
     line("search, whole call", whole * each, time * each, "us");
@@ -264,7 +273,8 @@ fn agree<'a>(i: &'a Input, theirs: impl Fn(&'a [u8]) -> probe::Search<'a>, table
     for query in &i.queries {
         let expected = probe::search(theirs(query));
         for search in [ours::search as Found, unchecked::search] {
-            let call = ours::Search { n, dim: DIM, vectors: &i.vectors, degree: PARAMS.degree, beam: BEAM, k: K, start: i.start, table, query };
+            let call =
+                ours::Search { n, dim: DIM, vectors: &i.vectors, degree: PARAMS.degree, beam: BEAM, k: K, start: i.start, table, query };
             let (mut words, mut floats) = (vec![0; 2 * n + 256], vec![0.0; n + 256]);
             let (mut ids, mut dists) = (vec![0; K], vec![0.0; K]);
             let answer = search(call, &mut words, &mut floats, &mut ids, &mut dists);
