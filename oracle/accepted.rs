@@ -2,7 +2,7 @@
 use crate::cases::*;
 use crate::lent::{pattern, reads, with, Lent};
 use crate::must;
-use crate::ours::{self, slack, Answer, Params, DONE};
+use crate::ours::{self, slack, Answer, Candidate, Params, DONE};
 use crate::tally::{note, note_if};
 use diskann::probe;
 
@@ -37,7 +37,6 @@ pub fn distance(r: &mut Rng, _: usize) {
     note(format!("length {len}"));
     let got = reads(&[&a, &b], &[], || ours::distance(&a, &b));
     must(got == Answer { distance: probe::distance(&a, &b), ..DONE }, "distance");
-    must(got.distance.is_sign_positive(), "distance: sign");
 }
 
 pub fn medoid(r: &mut Rng, n: usize) {
@@ -56,7 +55,8 @@ pub fn medoid(r: &mut Rng, n: usize) {
     must(got == Answer { id: want, ..DONE }, "medoid");
 }
 
-fn search_on(r: &mut Rng, d: &Data, table: &[u32]) {
+/// With a run of records beside the two outputs, or without one.
+fn search_on(r: &mut Rng, d: &Data, table: &[u32], as_records: bool) {
     let (n, dim, degree, start) = (d.n, d.dim, d.params.degree, d.start);
     let beam = match r.below(5) {
         0 => 0,
@@ -80,21 +80,36 @@ fn search_on(r: &mut Rng, d: &Data, table: &[u32]) {
     let most = k.min(beam.max(1));
     let (mut words, mut floats) = (pattern(r, 2 * n + 256 + MORE), pattern(r, n + 256 + MORE));
     let (mut ids, mut dists) = (pattern(r, most + MORE), pattern(r, most + MORE));
+    let mut run = pattern(r, most + MORE);
     let call = ours::Search { n, dim, vectors: &d.vectors, degree, beam, k, start, table, query: &query };
-    let lent = || ours::search(call, words.lend(), floats.lend(), ids.lend(), dists.lend());
-    let got = reads(&[&d.vectors, &query], &[table], lent);
+    let got = reads(&[&d.vectors, &query], &[table], || match as_records {
+        true => ours::records(call, words.lend(), floats.lend(), ids.lend(), dists.lend(), run.lend()),
+        false => ours::search(call, words.lend(), floats.lend(), ids.lend(), dists.lend()),
+    });
     let (want_ids, want_dists): (Vec<u32>, Vec<f32>) = want.into_iter().take(k).unzip();
+    let records = want_ids.iter().zip(&want_dists).map(|(&id, &distance)| Candidate { id, distance });
+    let want_run: Vec<Candidate> = records.filter(|_| as_records).collect();
     must(got == Answer { count: want_ids.len(), ..DONE }, "search: answer");
     must(ids.begins(&want_ids) && dists.begins(&want_dists), "search: answers, and nothing beyond them");
+    must(run.begins(&want_run), "search: records, and nothing beyond them");
     must(words.cleared(2 * n + 256) && floats.cleared(n + 256), "search: room");
+}
+
+fn any_search(r: &mut Rng, n: usize, as_records: bool) {
+    let d = data(r, n);
+    let table = searched(r, n, d.params.degree);
+    note_limits(&d);
+    search_on(r, &d, &table, as_records);
 }
 
 /// A search of any words that the search rule admits.
 pub fn search(r: &mut Rng, n: usize) {
-    let d = data(r, n);
-    let table = searched(r, n, d.params.degree);
-    note_limits(&d);
-    search_on(r, &d, &table);
+    any_search(r, n, false);
+}
+
+/// The same, with the run of records.
+pub fn records(r: &mut Rng, n: usize) {
+    any_search(r, n, true);
 }
 
 pub fn batch(r: &mut Rng, n: usize) {
@@ -179,5 +194,5 @@ pub fn build(r: &mut Rng, n: usize) {
     must(wide.begins(&flat(&want_wide, s)), "build: wide table");
     must(closed.begins(&flat(&want_closed, degree)), "build: closed table");
     must(room.cleared(n), "build: room");
-    search_on(r, &d, closed.lend());
+    search_on(r, &d, closed.lend(), false);
 }

@@ -30,7 +30,7 @@ struct Kind {
     large: bool,
 }
 
-const KINDS: [Kind; 14] = [
+const KINDS: [Kind; 16] = [
     Kind { name: "distance", run: accepted::distance, large: false },
     Kind { name: "medoid", run: accepted::medoid, large: true },
     Kind { name: "search", run: accepted::search, large: true },
@@ -45,6 +45,8 @@ const KINDS: [Kind; 14] = [
     Kind { name: "close refused", run: refused::close, large: false },
     Kind { name: "build refused", run: refused::build, large: false },
     Kind { name: "search refused", run: refused::search, large: false },
+    Kind { name: "records", run: accepted::records, large: true },
+    Kind { name: "records refused", run: refused::records, large: false },
 ];
 
 /// A case's number holds all that decides it: the run's seed, the kind, whether it is large, and its place.

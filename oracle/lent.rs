@@ -1,32 +1,48 @@
 //! What is lent to a call: filled with a pattern beforehand, with guard words behind it that are not lent, and compared afterwards.
 use crate::cases::Rng;
 use crate::must;
-use crate::ours::Answer;
+use crate::ours::{Answer, Candidate};
 use std::hint::black_box;
 
 const GUARD: usize = 5;
 
-/// A word of u32 or f32, compared by its bits.
+/// A word of u32 or f32, or a record of both, compared by its bits.
 pub trait Word: Copy {
-    fn of(bits: u32) -> Self;
-    fn bits(self) -> u32;
+    const ZERO: Self;
+    fn bits(self) -> u64;
+    /// One of no meaning.
+    fn any(r: &mut Rng) -> Self;
 }
 
 impl Word for u32 {
-    fn of(bits: u32) -> u32 {
-        bits
+    const ZERO: u32 = 0;
+    fn bits(self) -> u64 {
+        self.into()
     }
-    fn bits(self) -> u32 {
-        self
+    fn any(r: &mut Rng) -> u32 {
+        r.next() as u32
     }
 }
 
 impl Word for f32 {
-    fn of(bits: u32) -> f32 {
-        f32::from_bits(bits)
+    const ZERO: f32 = 0.0;
+    fn bits(self) -> u64 {
+        self.to_bits().into()
     }
-    fn bits(self) -> u32 {
-        self.to_bits()
+    /// Half of them are NaNs, of either sign, quiet and signalling, with any payload: a contract tells no NaN from another, so the comparison must.
+    fn any(r: &mut Rng) -> f32 {
+        let bits = r.next() as u32;
+        f32::from_bits(if r.below(2) == 0 { bits | 0x7F80_0000 } else { bits })
+    }
+}
+
+impl Word for Candidate {
+    const ZERO: Candidate = Candidate { id: 0, distance: 0.0 };
+    fn bits(self) -> u64 {
+        u64::from(self.id) << 32 | self.distance.bits()
+    }
+    fn any(r: &mut Rng) -> Candidate {
+        Candidate { id: u32::any(r), distance: f32::any(r) }
     }
 }
 
@@ -47,7 +63,7 @@ pub fn pattern<T: Word>(r: &mut Rng, len: usize) -> Lent<T> {
 /// `len` words that begin with these.
 pub fn with<T: Word>(r: &mut Rng, first: &[T], len: usize) -> Lent<T> {
     let mut now = first.to_vec();
-    now.extend((first.len()..len + GUARD).map(|_| T::of(r.next() as u32)));
+    now.extend((first.len()..len + GUARD).map(|_| T::any(r)));
     Lent { was: now.clone(), now }
 }
 
@@ -69,7 +85,7 @@ impl<T: Word> Lent<T> {
 
     /// The first `room` words are zero, and no other differs.
     pub fn cleared(&self, room: usize) -> bool {
-        self.begins(&vec![T::of(0); room])
+        self.begins(&vec![T::ZERO; room])
     }
 }
 

@@ -1,13 +1,21 @@
 //! The static library's calls as include/fjalgrout.h has them, as safe functions over slices.
 
 #[repr(C)]
-#[derive(Clone, Copy, Debug, PartialEq)]
+#[derive(Clone, Copy, Debug)]
 pub struct Answer {
     pub number: u32,
     pub count: usize,
     pub id: u32,
     pub draw: u32,
     pub distance: f32,
+}
+
+/// Field by field, the distance by its bits.
+impl PartialEq for Answer {
+    fn eq(&self, other: &Answer) -> bool {
+        let fields = |a: &Answer| (a.number, a.count, a.id, a.draw, a.distance.to_bits());
+        fields(self) == fields(other)
+    }
 }
 
 pub const DONE: Answer = Answer { number: 0, count: 0, id: 0, draw: 0, distance: 0.0 };
@@ -21,6 +29,13 @@ pub struct Params {
     pub extra: usize,
 }
 
+#[repr(C)]
+#[derive(Clone, Copy, Debug)]
+pub struct Candidate {
+    pub id: u32,
+    pub distance: f32,
+}
+
 pub const PAD: u32 = u32::MAX;
 
 pub fn slack(degree: usize) -> usize {
@@ -28,7 +43,7 @@ pub fn slack(degree: usize) -> usize {
 }
 
 mod c {
-    use super::{Answer, Params};
+    use super::{Answer, Candidate, Params};
     type Bytes = *const u8;
     type Words = *const u32;
     type WordsMut = *mut u32;
@@ -114,6 +129,30 @@ mod c {
             ids_len: usize,
             dists: FloatsMut,
             dists_len: usize,
+        ) -> Answer;
+        pub fn fjalgrout_records(
+            n: usize,
+            dim: usize,
+            vectors: Bytes,
+            vectors_len: usize,
+            degree: usize,
+            beam: usize,
+            k: usize,
+            start: u32,
+            table: Words,
+            table_len: usize,
+            query: Bytes,
+            query_len: usize,
+            words: WordsMut,
+            words_len: usize,
+            floats: FloatsMut,
+            floats_len: usize,
+            ids: WordsMut,
+            ids_len: usize,
+            dists: FloatsMut,
+            dists_len: usize,
+            run: *mut Candidate,
+            run_len: usize,
         ) -> Answer;
     }
 }
@@ -257,6 +296,35 @@ pub fn search(s: Search, words: &mut [u32], floats: &mut [f32], ids: &mut [u32],
             ids.len(),
             dists.as_mut_ptr(),
             dists.len(),
+        )
+    }
+}
+
+pub fn records(s: Search, words: &mut [u32], floats: &mut [f32], ids: &mut [u32], dists: &mut [f32], run: &mut [Candidate]) -> Answer {
+    unsafe {
+        c::fjalgrout_records(
+            s.n,
+            s.dim,
+            s.vectors.as_ptr(),
+            s.vectors.len(),
+            s.degree,
+            s.beam,
+            s.k,
+            s.start,
+            s.table.as_ptr(),
+            s.table.len(),
+            s.query.as_ptr(),
+            s.query.len(),
+            words.as_mut_ptr(),
+            words.len(),
+            floats.as_mut_ptr(),
+            floats.len(),
+            ids.as_mut_ptr(),
+            ids.len(),
+            dists.as_mut_ptr(),
+            dists.len(),
+            run.as_mut_ptr(),
+            run.len(),
         )
     }
 }

@@ -310,6 +310,14 @@ pub fn build(r: &mut Rng, n: usize) {
 }
 
 pub fn search(r: &mut Rng, n: usize) {
+    any_search(r, n, false);
+}
+
+pub fn records(r: &mut Rng, n: usize) {
+    any_search(r, n, true);
+}
+
+fn any_search(r: &mut Rng, n: usize, as_records: bool) {
     let d = data(r, n);
     let mut table = searched(r, n, d.params.degree);
     let mut query = query(r, &d);
@@ -317,7 +325,7 @@ pub fn search(r: &mut Rng, n: usize) {
     s.params.beam = r.below(30);
     let k = 1 + r.below(30);
     let most = k.min(s.params.beam.max(1));
-    let (mut words_len, mut floats_len, mut ids_len, mut dists_len) = (2 * n + 256, n + 256, most, most);
+    let (mut words_len, mut floats_len, mut ids_len, mut dists_len, mut run_len) = (2 * n + 256, n + 256, most, most, most);
     let mut low = Lowest::default();
     for _ in 0..1 + r.below(2) {
         match r.pick(&[1, 2, 3, 4, 6, 8, 10, 11]) {
@@ -330,11 +338,12 @@ pub fn search(r: &mut Rng, n: usize) {
                 low.fault(8);
             }
             10 => {
-                match r.below(4) {
+                match r.below(4 + usize::from(as_records)) {
                     0 => words_len = 2 * n + 255,
                     1 => floats_len = n + 255,
                     2 => ids_len = most - 1,
-                    _ => dists_len = most - 1,
+                    3 => dists_len = most - 1,
+                    _ => run_len = most - 1,
                 }
                 low.fault(10);
             }
@@ -358,7 +367,10 @@ pub fn search(r: &mut Rng, n: usize) {
         table: &table,
         query: &query,
     };
-    let lent = || ours::search(call, words.lend(), floats.lend(), ids.lend(), dists.lend());
-    let got = reads(&[&s.vectors, &query], &[&table], lent);
-    low.check(got, words.kept() && floats.kept() && ids.kept() && dists.kept());
+    let mut run = pattern(r, run_len);
+    let got = reads(&[&s.vectors, &query], &[&table], || match as_records {
+        true => ours::records(call, words.lend(), floats.lend(), ids.lend(), dists.lend(), run.lend()),
+        false => ours::search(call, words.lend(), floats.lend(), ids.lend(), dists.lend()),
+    });
+    low.check(got, words.kept() && floats.kept() && ids.kept() && dists.kept() && run.kept());
 }

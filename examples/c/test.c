@@ -17,6 +17,14 @@ static void check_at(int line, const char *text, int holds) {
 }
 #define CHECK(x) check_at(__LINE__, #x, (x))
 
+/* What floats hold before a call: NaNs, quiet and signalling, of both signs and with payloads, and a plain number. No contract tells one NaN from another;
+ * here they are compared byte by byte. They are only ever copied as bytes, since a copy as a float might quiet one. */
+static const uint32_t odd_floats[5] = {0x7FA00001, 0xFF800001, 0x7FC12345, 0x5A5A5A5A, 0xFFFFFFFF};
+
+static void fill_floats(void *floats, size_t bytes) {
+    for (size_t i = 0; i < bytes / 4; i++) memcpy((char *)floats + 4 * i, &odd_floats[i % 5], 4);
+}
+
 /* The fields beside the number, all 0 in a refusal and in a call that only fills slices; the distance is +0.0. */
 static int only(fjalgrout_answer a, uint32_t number) {
     return a.number == number && a.count == 0 && a.id == 0 && a.draw == 0 && a.distance == 0 && !signbit(a.distance);
@@ -53,7 +61,7 @@ struct searching {
 
 static struct searching the_line(uint8_t query, size_t beam, size_t k) {
     struct searching s;
-    memset(&s, 0x5A, sizeof s);
+    memset(&s, 0x5A, sizeof s), fill_floats(s.floats, sizeof s.floats), fill_floats(s.dists, sizeof s.dists);
     s.n = 4, s.dim = 1, s.vectors_count = 4, s.degree = 2, s.beam = beam, s.k = k, s.start = 0;
     s.vectors = line, s.query = query, s.query_count = 1, s.table_count = 8;
     memcpy(s.table, line_rows, sizeof line_rows);
@@ -85,11 +93,21 @@ static void answers_at(int at, struct searching s, size_t count, const uint32_t 
 }
 #define ANSWERS(s, count, ids, dists) answers_at(__LINE__, s, count, ids, dists)
 
+static fjalgrout_answer run_records(struct searching *s, fjalgrout_candidate *run, size_t run_count) {
+    return fjalgrout_records(s->n, s->dim, s->vectors, s->vectors_count, s->degree, s->beam, s->k, s->start, s->table, s->table_count, &s->query,
+                             s->query_count, s->words, s->words_count, s->floats, s->floats_count, s->ids, s->ids_count, s->dists, s->dists_count,
+                             run, run_count);
+}
+
+/* By the search, and by the same with a run of records. */
 static void refuses_at(int at, struct searching s, uint32_t number) {
     struct searching before = s;
-    fjalgrout_answer a = search(&s);
-    check_at(at, "refused by its number", only(a, number));
+    fjalgrout_candidate run[4], kept[4];
+    fill_floats(run, sizeof run), memcpy(kept, run, sizeof run);
+    check_at(at, "refused by its number", only(search(&s), number));
     check_at(at, "nothing changed", memcmp(&s, &before, sizeof s) == 0);
+    check_at(at, "records refused by that number", only(run_records(&s, run, 4), number));
+    check_at(at, "nothing changed beside records", memcmp(&s, &before, sizeof s) == 0 && memcmp(run, kept, sizeof run) == 0);
 }
 
 static void test_search(void) {
@@ -139,15 +157,9 @@ static void test_search_refusals(void) {
 
 /* ---- the run of records: as the search, and the run beside it */
 
-static fjalgrout_answer run_records(struct searching *s, fjalgrout_candidate *run, size_t run_count) {
-    return fjalgrout_records(s->n, s->dim, s->vectors, s->vectors_count, s->degree, s->beam, s->k, s->start, s->table, s->table_count, &s->query,
-                             s->query_count, s->words, s->words_count, s->floats, s->floats_count, s->ids, s->ids_count, s->dists, s->dists_count,
-                             run, run_count);
-}
-
 static void test_records(void) {
     fjalgrout_candidate run[4], kept[4];
-    memset(run, 0x5A, sizeof run), memcpy(kept, run, sizeof run);
+    fill_floats(run, sizeof run), memcpy(kept, run, sizeof run);
     struct searching s = the_line(38, 2, 2), before = s, plain = s;
     CHECK(only(run_records(&s, run, 1), 10));
     CHECK(memcmp(&s, &before, sizeof s) == 0 && memcmp(run, kept, sizeof run) == 0);
@@ -266,35 +278,82 @@ static fjalgrout_answer build(struct building *b) {
                            b->opening_count, b->wide, b->wide_count, b->closed, b->closed_count, words, b->words_count, floats, b->floats_count);
 }
 
-static void build_refuses_at(int at, struct building b, uint32_t number) {
+/* Of the order as the nodes, and of the wide table, which open_wide fills. */
+static fjalgrout_answer batch(struct building *b) {
+    return fjalgrout_batch(b->n, b->dim, line, b->vectors_count, b->params, b->start, b->order, b->order_count, b->seeds, b->seeds_count, b->wide,
+                           b->wide_count, words, b->words_count, floats, b->floats_count);
+}
+
+static fjalgrout_answer close_wide(struct building *b) {
+    return fjalgrout_close(b->n, b->dim, line, b->vectors_count, b->params, b->wide, b->wide_count, b->closed, b->closed_count, words, b->words_count,
+                           floats, b->floats_count);
+}
+
+static void open_wide(struct building *b) { CHECK(only(fjalgrout_open(4, 2, line_rows, 8, b->wide, 12), 0)); }
+
+static void build_refuses_at(int at, fjalgrout_answer (*call)(struct building *), struct building b, uint32_t number) {
     static uint32_t words_before[sizeof words / 4];
     static float floats_before[sizeof floats / 4];
     struct building before = b;
-    memset(words, 0x5A, sizeof words), memset(floats, 0x5A, sizeof floats);
+    memset(words, 0x5A, sizeof words), fill_floats(floats, sizeof floats);
     memcpy(words_before, words, sizeof words), memcpy(floats_before, floats, sizeof floats);
-    fjalgrout_answer a = build(&b);
+    fjalgrout_answer a = call(&b);
     check_at(at, "refused by its number", only(a, number));
     check_at(at, "nothing changed", memcmp(&b, &before, sizeof b) == 0);
     check_at(at, "no scratch changed", memcmp(words, words_before, sizeof words) == 0 && memcmp(floats, floats_before, sizeof floats) == 0);
 }
-#define BUILD_REFUSES(number, change) \
+#define CALL_REFUSES(call, number, change) \
     do { \
         struct building b = the_build(); \
+        if (call != build) open_wide(&b); \
         change; \
-        build_refuses_at(__LINE__, b, number); \
+        build_refuses_at(__LINE__, call, b, number); \
     } while (0)
+#define BUILD_REFUSES(number, change) CALL_REFUSES(build, number, change)
+
+/* What batch and close refuse as a whole build does. */
+#define BOTH_REFUSE(number, change) \
+    do { \
+        CALL_REFUSES(batch, number, change); \
+        CALL_REFUSES(close_wide, number, change); \
+    } while (0)
+
+static void test_batch_and_close_refusals(void) {
+    BOTH_REFUSE(1, b.dim = 257);
+    BOTH_REFUSE(1, b.dim = 0);
+    BOTH_REFUSE(2, b.vectors_count = 3);
+    BOTH_REFUSE(2, b.n = 65537);
+    BOTH_REFUSE(3, b.params.degree = 65);
+    BOTH_REFUSE(3, b.params.degree = 0);
+    CALL_REFUSES(batch, 4, b.params.beam = 257);
+    BOTH_REFUSE(5, b.params.alpha = nextafterf(4.0f, 5.0f));
+    BOTH_REFUSE(5, b.params.alpha = INFINITY);
+    CALL_REFUSES(batch, 6, b.start = 4);
+    CALL_REFUSES(batch, 7, b.params.extra = 4);
+    CALL_REFUSES(batch, 7, b.seeds[2] = 0);
+    CALL_REFUSES(batch, 7, b.seeds_count = 3);
+    BOTH_REFUSE(8, b.wide_count = 11);
+    BOTH_REFUSE(8, b.wide[0] = 0);
+    BOTH_REFUSE(8, b.wide[1] = 1);
+    CALL_REFUSES(close_wide, 8, b.closed_count = 7);
+    CALL_REFUSES(batch, 9, b.order[0] = 1);
+    CALL_REFUSES(batch, 9, b.order[0] = 4);
+    BOTH_REFUSE(10, b.words_count--);
+    BOTH_REFUSE(10, b.floats_count--);
+}
 
 static void test_build(void) {
     struct building b = the_build();
-    memset(words, 0x5A, sizeof words), memset(floats, 0x5A, sizeof floats);
+    float beyond;
+    memset(words, 0x5A, sizeof words), fill_floats(floats, sizeof floats), memcpy(&beyond, floats + b.floats_count, 4);
     CHECK(only(build(&b), 0));
     int lawful = 1, zero = 1;
     for (uint32_t i = 0; i < 4; i++)
         for (int j = 0; j < 2; j++) lawful = lawful && b.closed[2 * i + j] != i && (b.closed[2 * i + j] < 4 || b.closed[2 * i + j] == PAD);
     for (size_t i = 0; i < b.words_count; i++) zero = zero && words[i] == 0;
-    for (size_t i = 0; i < b.floats_count; i++) zero = zero && floats[i] == 0;
+    for (size_t i = 0; i < b.floats_count; i++) zero = zero && floats[i] == 0 && !signbit(floats[i]);
     CHECK(lawful && zero);
-    CHECK(words[b.words_count] == 0x5A5A5A5A);
+    CHECK(words[b.words_count] == 0x5A5A5A5A && memcmp(&beyond, floats + b.floats_count, 4) == 0);
     struct searching s = the_line(38, 4, 4);
     memcpy(s.table, b.closed, sizeof b.closed);
     ANSWERS(s, 4, ((uint32_t[]){3, 2, 1, 0}), ((float[]){4, 64, 324, 784}));
@@ -354,11 +413,25 @@ static void test_open_close(void) {
 static void test_defaults(void) {
     fjalgrout_params p = fjalgrout_defaults();
     CHECK(p.degree == 64 && p.beam == 128 && p.alpha == 1.2f && p.extra == 1);
-    CHECK(fjalgrout_slack(1) == 2 && fjalgrout_slack(10) == 13 && fjalgrout_slack(64) == 84);
+}
+
+/* Every size is right where it is one, and SIZE_MAX where it is none. */
+static void test_sizes(void) {
+    for (size_t degree = 0; degree <= 65; degree++) CHECK(fjalgrout_slack(degree) == (13 * degree + 9) / 10);
+    CHECK(fjalgrout_build_words(65536) == 425984 && fjalgrout_build_floats(65536) == 263168);
+    CHECK(fjalgrout_search_words(65536) == 131328 && fjalgrout_search_floats(65536) == 65792);
+    CHECK(fjalgrout_closed_words(65536, 64) == 4194304 && fjalgrout_wide_words(65536, 64) == 5505024 && fjalgrout_closed_words(9, 0) == 0);
+    const size_t largest = (SIZE_MAX - 32768) / 6;
+    CHECK(fjalgrout_build_words(largest) == 6 * largest + 32768 && fjalgrout_build_words(largest + 1) == SIZE_MAX);
+    CHECK(fjalgrout_slack(SIZE_MAX) == SIZE_MAX && fjalgrout_build_words(SIZE_MAX) == SIZE_MAX && fjalgrout_build_floats(SIZE_MAX) == SIZE_MAX);
+    CHECK(fjalgrout_search_words(SIZE_MAX) == SIZE_MAX && fjalgrout_search_floats(SIZE_MAX) == SIZE_MAX);
+    CHECK(fjalgrout_closed_words(SIZE_MAX, 2) == SIZE_MAX && fjalgrout_wide_words(2, SIZE_MAX) == SIZE_MAX);
+    CHECK(fjalgrout_most_answers(SIZE_MAX, SIZE_MAX) == SIZE_MAX && fjalgrout_most_answers(0, SIZE_MAX) == 1 && fjalgrout_most_pivots(SIZE_MAX) == 8);
 }
 
 int main(void) {
     test_defaults();
+    test_sizes();
     test_distance();
     test_search();
     test_search_refusals();
@@ -367,6 +440,7 @@ int main(void) {
     test_draws();
     test_pruning();
     test_build();
+    test_batch_and_close_refusals();
     test_one_entry();
     test_open_close();
     printf("%d checks, %d failed\n", checks, failures);

@@ -31,6 +31,7 @@ fn drawn_build(n: usize, params: Params, seed: u64) -> Build {
         order,
         seeds,
         opening,
+        wide: vec![],
         short: [0; 4],
     }
 }

@@ -2,8 +2,8 @@
 
 mod lent;
 
-use fjalgrout::{batch, build_room, close, distance, medoid, open, Candidate, Generator, Params, Refusal, Scratch, PADDING};
-use lent::{line_build, line_search, vectors, Build, Search, LINE, LINE_ROWS};
+use fjalgrout::{build_room, distance, medoid, most_answers, open, search_room, slack, Generator, Params, Refusal, Room, PADDING};
+use lent::{line_build, line_search, vectors, Build, Call, Search, LINE, LINE_ROWS, LINE_WIDE};
 
 #[test]
 fn distance_refuses() {
@@ -21,10 +21,11 @@ fn medoid_refuses() {
     }
 }
 
-/// The number that a search of the line gives once it is changed.
+/// The number that a search of the line gives once it is changed, and the same search with a run of records.
 fn searched(change: impl Fn(&mut Search)) -> u32 {
     let mut call = line_search(38, 2, 2);
     change(&mut call);
+    assert_eq!(call.answers_in(2), call.answers());
     call.answers().map_or_else(|refusal| refusal.0, |_| 0)
 }
 
@@ -68,26 +69,25 @@ fn the_lower_of_two_numbers() {
     assert_eq!(searched(|s| (s.short, s.query) = ([0, 0, 0, 1], vec![])), 10);
 }
 
-/// The run of records: refused as the search is, and when it is short, and then nothing is written.
+/// The run of records: refused also when it is short, by the lower number of two.
 #[test]
 fn records_refuse() {
-    let untouched = Candidate { id: 5, distance: 5.0 };
-    let mut run = [untouched; 3];
     let mut call = line_search(38, 2, 2);
-    assert_eq!(call.answers_in(&mut run[..1]), Err(Refusal(10)));
+    assert_eq!(call.answers_in(1), Err(Refusal(10)));
+    assert_eq!(call.answers_in(3), Ok(vec![(3, 4.0), (2, 64.0)]));
     call.start = 4;
-    assert_eq!(call.answers_in(&mut run), Err(Refusal(6)));
-    assert_eq!(run, [untouched; 3]);
-    call.start = 0;
-    assert_eq!(call.answers_in(&mut run), call.answers());
-    assert_eq!(run, [Candidate { id: 3, distance: 4.0 }, Candidate { id: 2, distance: 64.0 }, untouched]);
+    assert_eq!(call.answers_in(0), Err(Refusal(6)));
 }
 
-/// The number that a build of the line gives once it is changed.
+/// The number that a call over the line gives once it is changed.
+fn number(call: Call, change: impl Fn(&mut Build)) -> u32 {
+    let mut line = line_build();
+    change(&mut line);
+    line.given(call).map_or_else(|refusal| refusal.0, |_| 0)
+}
+
 fn built(change: impl Fn(&mut Build)) -> u32 {
-    let mut call = line_build();
-    change(&mut call);
-    call.table().map_or_else(|refusal| refusal.0, |_| 0)
+    number(Call::Whole, change)
 }
 
 #[test]
@@ -118,28 +118,36 @@ fn build_refuses() {
     assert_eq!(built(|b| (b.order[0], b.short[2]) = (1, 1)), 9);
 }
 
-const LINE_WIDE: [u32; 12] = [1, PADDING, PADDING, 0, 2, PADDING, 1, 3, PADDING, 2, PADDING, PADDING];
-
-/// A batch over the line: its answer, and the wide table and scratch as they are after it, which held a pattern.
-fn batched(params: Params, nodes: &[u32], seeds: &[u32], short: usize) -> (Result<(), Refusal>, bool) {
-    let mut wide = LINE_WIDE;
-    let (mut words, mut floats) = (vec![5; build_room(4).words], vec![5.0; build_room(4).floats - short]);
-    let scratch = Scratch {
-        words: &mut words,
-        floats: &mut floats,
-    };
-    let given = batch(vectors(4, 1, &LINE), params, 0, nodes, seeds, &mut wide, scratch);
-    (given, wide == LINE_WIDE && words.iter().all(|&w| w == 5) && floats.iter().all(|&f| f == 5.0))
+#[test]
+fn batch_refuses() {
+    let batched = |change: fn(&mut Build)| number(Call::Batch, change);
+    assert_eq!(batched(|_| ()), 0);
+    assert_eq!(batched(|b| (b.order, b.seeds) = (vec![], vec![])), 0);
+    assert_eq!(batched(|b| b.params.beam = 257), 4);
+    assert_eq!(batched(|b| b.start = 4), 6);
+    assert_eq!(batched(|b| b.seeds.truncate(3)), 7);
+    assert_eq!(batched(|b| b.seeds[2] = 0), 7);
+    assert_eq!(batched(|b| (b.order, b.seeds) = (vec![0, 4], vec![1, 1])), 9);
+    assert_eq!(batched(|b| (b.order, b.seeds) = (vec![1, 1], vec![1, 1])), 9);
 }
 
 #[test]
-fn batch_refuses() {
-    let params = line_build().params;
-    assert_eq!(batched(params, &[0, 4], &[1, 1], 0), (Err(Refusal(9)), true));
-    assert_eq!(batched(params, &[1, 1], &[1, 1], 0), (Err(Refusal(9)), true));
-    assert_eq!(batched(params, &[1], &[], 0), (Err(Refusal(7)), true));
-    assert_eq!(batched(params, &[1], &[2], 1), (Err(Refusal(10)), true));
-    assert_eq!(batched(params, &[], &[], 0).0, Ok(()));
+fn batch_and_close_refuse() {
+    for call in [Call::Batch, Call::Close] {
+        assert_eq!(number(call, |b| b.dim = 0), 1);
+        assert_eq!(number(call, |b| b.dim = 257), 1);
+        assert_eq!(number(call, |b| b.n = 0), 2);
+        assert_eq!(number(call, |b| b.bytes.truncate(3)), 2);
+        assert_eq!(number(call, |b| b.params.degree = 65), 3);
+        assert_eq!(number(call, |b| b.params.alpha = f32::from_bits(4.0f32.to_bits() + 1)), 5);
+        assert_eq!(number(call, |b| b.params.alpha = f32::INFINITY), 5);
+        assert_eq!(number(call, |b| b.short[0] = 1), 8);
+        assert_eq!(number(call, |b| b.wide[0] = 0), 8);
+        assert_eq!(number(call, |b| b.wide[0..2].copy_from_slice(&[PADDING, 1])), 8);
+        assert_eq!(number(call, |b| b.short[2] = 1), 10);
+        assert_eq!(number(call, |b| b.short[3] = 1), 10);
+    }
+    assert_eq!(number(Call::Close, |b| b.short[1] = 1), 8);
 }
 
 #[test]
@@ -154,26 +162,32 @@ fn open_and_close() {
     assert_eq!(wide, LINE_WIDE);
 
     // Close ignores the record's beam and extra seeds.
-    let params = Params {
+    let mut closing = line_build();
+    closing.params = Params {
         beam: 999,
         extra: 999,
-        ..line_build().params
+        ..closing.params
     };
-    let (mut closed, mut words, mut floats) = ([5; 8], vec![5; build_room(4).words], vec![5.0; build_room(4).floats]);
-    let mut closing = |wide: &[u32], closed: &mut [u32], short: usize| {
-        let end = words.len() - short;
-        let scratch = Scratch {
-            words: &mut words[..end],
-            floats: &mut floats,
-        };
-        close(vectors(4, 1, &LINE), params, wide, closed, scratch)
+    assert_eq!(closing.given(Call::Close), Ok(LINE_ROWS.to_vec()));
+}
+
+/// A size that would not fit is the greatest, and the others are right.
+#[test]
+fn sizes_have_no_condition() {
+    assert!((0..=65).all(|degree| slack(degree) == (13 * degree).div_ceil(10)));
+    let greatest = Room {
+        words: usize::MAX,
+        floats: usize::MAX,
     };
-    assert_eq!(closing(&wide, &mut closed[..7], 0), Err(Refusal(8)));
-    assert_eq!(closing(&wide[..11], &mut closed, 0), Err(Refusal(8)));
-    assert_eq!(closing(&wide, &mut closed, 1), Err(Refusal(10)));
-    assert_eq!(closed, [5; 8]);
-    assert_eq!(closing(&wide, &mut closed, 0), Ok(()));
-    assert_eq!(closed, LINE_ROWS);
+    assert_eq!(
+        (slack(usize::MAX), build_room(usize::MAX), search_room(usize::MAX)),
+        (usize::MAX, greatest, greatest)
+    );
+    assert_eq!(most_answers(usize::MAX, usize::MAX), usize::MAX);
+    let room = |words, floats| Room { words, floats };
+    assert_eq!((build_room(65_536), search_room(65_536)), (room(425_984, 263_168), room(131_328, 65_792)));
+    let largest = (usize::MAX - 32_768) / 6;
+    assert_eq!((build_room(largest).words, build_room(largest + 1).words), (6 * largest + 32_768, usize::MAX));
 }
 
 #[test]

@@ -1,12 +1,14 @@
-//! A search and a build with all that they are lent: each slice holds a pattern, and guard words behind the room that is asked for.
+//! A search, a build, a batch and a close with all that they are lent: each slice holds a pattern, and guard words behind the room that is asked for.
 #![allow(dead_code)]
 
 use fjalgrout::{
-    build, build_room, most_answers, search, search_records, search_room, slack, Candidate, Params, Refusal, Scratch, Table, Vectors, Wanted, PADDING,
+    batch, build, build_room, close, most_answers, search, search_records, search_room, slack, Candidate, Params, Refusal, Scratch, Table, Vectors, Wanted,
+    PADDING,
 };
 
 pub const LINE: [u8; 4] = [10, 20, 30, 40];
 pub const LINE_ROWS: [u32; 8] = [1, PADDING, 0, 2, 1, 3, 2, PADDING];
+pub const LINE_WIDE: [u32; 12] = [1, PADDING, PADDING, 0, 2, PADDING, 1, 3, PADDING, 2, PADDING, PADDING];
 pub const PATTERN: u32 = 0x5A5A_5A5A;
 const GUARDS: usize = 4;
 
@@ -18,16 +20,27 @@ fn words(count: usize) -> Vec<u32> {
     vec![PATTERN; count + GUARDS]
 }
 
+fn holds_pattern(words: &[u32]) -> bool {
+    words.iter().all(|&word| word == PATTERN)
+}
+
+/// The bits of a float at a place: NaNs, quiet and signalling, of both signs and with payloads, and a plain number. No contract tells one NaN from
+/// another; here they are compared by their bits.
+fn odd(place: usize) -> u32 {
+    [0x7FA0_0001, 0xFF80_0001, 0x7FC1_2345, PATTERN, u32::MAX][place % 5]
+}
+
 fn floats(count: usize) -> Vec<f32> {
-    vec![f32::from_bits(PATTERN); count + GUARDS]
+    (0..count + GUARDS).map(|place| f32::from_bits(odd(place))).collect()
 }
 
 fn bits(floats: &[f32]) -> Vec<u32> {
     floats.iter().map(|f| f.to_bits()).collect()
 }
 
-fn holds_pattern(words: &[u32]) -> bool {
-    words.iter().all(|&word| word == PATTERN)
+/// From a place on, the floats are as they were.
+fn odd_from(place: usize, floats: &[f32]) -> bool {
+    bits(floats)[place..].iter().enumerate().all(|(i, &word)| word == odd(place + i))
 }
 
 fn is_zero(words: &[u32]) -> bool {
@@ -69,8 +82,18 @@ impl Search {
         self.given(None)
     }
 
-    pub fn answers_in(&self, run: &mut [Candidate]) -> Result<Vec<(u32, f32)>, Refusal> {
-        self.given(Some(run))
+    /// With a run of so many records, which is looked at too.
+    pub fn answers_in(&self, run: usize) -> Result<Vec<(u32, f32)>, Refusal> {
+        let mut records: Vec<Candidate> = floats(run).into_iter().map(|distance| Candidate { id: PATTERN, distance }).collect();
+        let given = self.given(Some(&mut records[..run]));
+        let answers = given.clone().unwrap_or_default();
+        let (ids, distances): (Vec<u32>, Vec<f32>) = records.iter().map(|c| (c.id, c.distance)).unzip();
+        assert!(answers.iter().zip(&records).all(|(a, c)| *a == (c.id, c.distance)), "the answers as records");
+        assert!(
+            holds_pattern(&ids[answers.len()..]) && odd_from(answers.len(), &distances),
+            "records beyond the answers"
+        );
+        given
     }
 
     /// The answers of the call, with or without a run of records, once every word that it was lent has been looked at.
@@ -94,17 +117,24 @@ impl Search {
             None => search(v, table, wanted, &self.query, scratch, out.0, out.1),
             Some(run) => search_records(v, table, wanted, &self.query, scratch, out.0, out.1, run),
         };
-        let (f, beyond) = (bits(&f), bits(&dists));
         let count = *given.as_ref().unwrap_or(&0);
-        assert!(holds_pattern(&ids[count..]) && holds_pattern(&beyond[count..]), "outputs beyond the answers");
+        assert!(holds_pattern(&ids[count..]) && odd_from(count, &dists), "outputs beyond the answers");
         let used = if given.is_ok() { (room.words, room.floats) } else { (0, 0) };
-        assert!(is_zero(&w[..used.0]) && is_zero(&f[..used.1]), "room left zero");
+        assert!(is_zero(&w[..used.0]) && is_zero(&bits(&f[..used.1])), "room left zero");
         assert!(
-            holds_pattern(&w[used.0..]) && holds_pattern(&f[used.1..]),
+            holds_pattern(&w[used.0..]) && odd_from(used.1, &f),
             "scratch beyond the room, or of a refused call"
         );
         given.map(|count| ids.into_iter().zip(dists).take(count).collect())
     }
+}
+
+/// What is called with a [`Build`]: a whole build of its opening rows; or a batch, with the order for its nodes, or a close, of its wide rows.
+#[derive(Clone, Copy, Debug, PartialEq, Eq)]
+pub enum Call {
+    Whole,
+    Batch,
+    Close,
 }
 
 #[derive(Clone, Debug)]
@@ -117,6 +147,7 @@ pub struct Build {
     pub order: Vec<u32>,
     pub seeds: Vec<u32>,
     pub opening: Vec<u32>,
+    pub wide: Vec<u32>,
     /// How much is taken away from the wide table, the closed one, the words and the floats.
     pub short: [usize; 4],
 }
@@ -136,39 +167,52 @@ pub fn line_build() -> Build {
         order: vec![3, 1, 0, 2],
         seeds: vec![1, 2, 3, 1],
         opening: LINE_ROWS.to_vec(),
+        wide: LINE_WIDE.to_vec(),
         short: [0; 4],
     }
 }
 
 impl Build {
-    /// The closed table, once every word that the call was lent has been looked at.
+    /// The closed table of a whole build.
     pub fn table(&self) -> Result<Vec<u32>, Refusal> {
+        self.given(Call::Whole)
+    }
+
+    /// What the call writes, closed table or, for a batch, wide one, once every word that it was lent has been looked at.
+    pub fn given(&self, call: Call) -> Result<Vec<u32>, Refusal> {
         let n = self.opening.len() / self.params.degree.clamp(1, 64);
         let (room, wide_words, closed_words) = (build_room(n), n * slack(self.params.degree), n * self.params.degree);
         let (mut w, mut f, mut wide, mut closed) = (words(room.words), floats(room.floats), words(wide_words), words(closed_words));
+        if call != Call::Whole {
+            wide = self.wide.iter().copied().chain(words(0)).collect();
+        }
+        let (wide_end, wide_before) = (wide.len() - GUARDS - self.short[0], wide.clone());
         let scratch = Scratch {
             words: &mut w[..room.words - self.short[2]],
             floats: &mut f[..room.floats - self.short[3]],
         };
-        let tables = (&mut wide[..wide_words - self.short[0]], &mut closed[..closed_words - self.short[1]]);
+        let tables = (&mut wide[..wide_end], &mut closed[..closed_words - self.short[1]]);
         let v = vectors(self.n, self.dim, &self.bytes);
-        let given = build(v, self.params, self.start, &self.order, &self.seeds, &self.opening, tables.0, tables.1, scratch);
-        let f = bits(&f);
-        let used = if given.is_ok() {
-            [wide_words, closed_words, room.words, room.floats]
-        } else {
-            [0; 4]
+        let given = match call {
+            Call::Whole => build(v, self.params, self.start, &self.order, &self.seeds, &self.opening, tables.0, tables.1, scratch),
+            Call::Batch => batch(v, self.params, self.start, &self.order, &self.seeds, tables.0, scratch),
+            Call::Close => close(v, self.params, tables.0, tables.1, scratch),
         };
-        assert!(is_zero(&w[..used[2]]) && is_zero(&f[..used[3]]), "room left zero");
+        let done = given.is_ok();
+        let written = |by: [Call; 2], count: usize| if done && by.contains(&call) { count } else { 0 };
+        let (wide_used, closed_used) = (written([Call::Whole, Call::Batch], wide_end), written([Call::Whole, Call::Close], closed_words));
+        let used = if done { (room.words, room.floats) } else { (0, 0) };
+        assert!(is_zero(&w[..used.0]) && is_zero(&bits(&f[..used.1])), "room left zero");
         assert!(
-            holds_pattern(&wide[used[0]..]) && holds_pattern(&closed[used[1]..]),
+            wide[wide_used..] == wide_before[wide_used..] && holds_pattern(&closed[closed_used..]),
             "words beyond a table, or of a refused call"
         );
         assert!(
-            holds_pattern(&w[used[2]..]) && holds_pattern(&f[used[3]..]),
+            holds_pattern(&w[used.0..]) && odd_from(used.1, &f),
             "scratch beyond the room, or of a refused call"
         );
+        wide.truncate(wide_words);
         closed.truncate(closed_words);
-        given.map(|()| closed)
+        given.map(|()| if call == Call::Batch { wide } else { closed })
     }
 }
