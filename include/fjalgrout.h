@@ -77,20 +77,23 @@ typedef struct {
     fjalgrout_answer answer;
 } fjalgrout_stepped;
 
+/* a x b + c; SIZE_MAX where that is no size_t, as it is for arguments that every call refuses. */
+static inline size_t fjalgrout_saturated(size_t a, size_t b, size_t c) { return b != 0 && a > (SIZE_MAX - c) / b ? SIZE_MAX : a * b + c; }
+
 /* Slack: the words of a wide row, ceil(13 x degree / 10). */
-static inline size_t fjalgrout_slack(size_t degree) { return (13 * degree + 9) / 10; }
+static inline size_t fjalgrout_slack(size_t degree) { return fjalgrout_saturated(degree / 10, 13, (degree % 10 * 13 + 9) / 10); }
 
 /* The words of a closed table and of a wide one. */
-static inline size_t fjalgrout_closed_words(size_t n, size_t degree) { return n * degree; }
-static inline size_t fjalgrout_wide_words(size_t n, size_t degree) { return n * fjalgrout_slack(degree); }
+static inline size_t fjalgrout_closed_words(size_t n, size_t degree) { return fjalgrout_saturated(n, degree, 0); }
+static inline size_t fjalgrout_wide_words(size_t n, size_t degree) { return fjalgrout_saturated(n, fjalgrout_slack(degree), 0); }
 
 /* Room for a batch, close or whole build. On success that much is left zero; scratch beyond it is untouched. */
-static inline size_t fjalgrout_build_words(size_t n) { return 6 * n + 32768; }
-static inline size_t fjalgrout_build_floats(size_t n) { return 4 * n + 1024; }
+static inline size_t fjalgrout_build_words(size_t n) { return fjalgrout_saturated(n, 6, 32768); }
+static inline size_t fjalgrout_build_floats(size_t n) { return fjalgrout_saturated(n, 4, 1024); }
 
 /* Room for a search, left zero likewise, and the answers that each of its outputs must have room for: min(k, max(beam, 1)). */
-static inline size_t fjalgrout_search_words(size_t n) { return 2 * n + 256; }
-static inline size_t fjalgrout_search_floats(size_t n) { return n + 256; }
+static inline size_t fjalgrout_search_words(size_t n) { return fjalgrout_saturated(n, 2, 256); }
+static inline size_t fjalgrout_search_floats(size_t n) { return fjalgrout_saturated(n, 1, 256); }
 static inline size_t fjalgrout_most_answers(size_t beam, size_t k) {
     size_t most = beam < 1 ? 1 : beam;
     return k < most ? k : most;

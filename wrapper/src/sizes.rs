@@ -1,4 +1,5 @@
-//! How many words a row, scratch and outputs have.
+//! How many words a row, scratch and outputs have. A number that would not fit is `usize::MAX`: no slice is so long, and the call that it is for refuses
+//! such an argument.
 
 /// The padding word of a table.
 pub const PADDING: u32 = u32::MAX;
@@ -12,22 +13,22 @@ pub struct Room {
 
 /// Slack, the words of a wide row: ceil(13 x degree / 10). A closed table has n x degree words, a wide table n x slack.
 pub fn slack(degree: usize) -> usize {
-    (13 * degree).div_ceil(10)
+    (degree / 10).saturating_mul(13).saturating_add((degree % 10 * 13).div_ceil(10))
 }
 
 /// Room for a batch, close or whole build.
 pub fn build_room(n: usize) -> Room {
     Room {
-        words: 6 * n + 32_768,
-        floats: 4 * n + 1_024,
+        words: n.saturating_mul(6).saturating_add(32_768),
+        floats: n.saturating_mul(4).saturating_add(1_024),
     }
 }
 
 /// Room for a search.
 pub fn search_room(n: usize) -> Room {
     Room {
-        words: 2 * n + 256,
-        floats: n + 256,
+        words: n.saturating_mul(2).saturating_add(256),
+        floats: n.saturating_add(256),
     }
 }
 
