@@ -94,14 +94,39 @@ fn line(c: &Case, l: &Left) -> String {
 }
 
 fn text(c: &Case) -> String {
-    assert!(c.vectors.len() <= 4_096 && c.query.len() <= 300 && c.list.len() <= 1_024 && c.seeds.len() <= 1_024, "a list is longer than replay's");
-    assert!(c.table.len().max(c.wide).max(c.closed) <= TABLE && c.words <= WORDS && c.floats <= FLOATS && c.ids.max(c.dists) <= ANSWERS, "a slice is longer than replay's");
+    assert!(
+        c.vectors.len() <= 4_096 && c.query.len() <= 300 && c.list.len() <= 1_024 && c.seeds.len() <= 1_024,
+        "a list is longer than replay's"
+    );
+    assert!(
+        c.table.len().max(c.wide).max(c.closed) <= TABLE && c.words <= WORDS && c.floats <= FLOATS && c.ids.max(c.dists) <= ANSWERS,
+        "a slice is longer than replay's"
+    );
     let vectors: Vec<u32> = c.vectors.iter().map(|&b| b as u32).collect();
     let query: Vec<u32> = c.query.iter().map(|&b| b as u32).collect();
     let lists = [&vectors, &query, &c.list, &c.seeds, &c.table];
     let length = HEAD + lists.iter().map(|l| l.len()).sum::<usize>();
-    let mut all: Vec<u32> = [length, c.kind, c.n, c.dim, c.degree, c.beam, c.alpha, c.extra, c.start as usize, c.k, c.wide, c.closed, c.words, c.floats, c.ids, c.dists]
-        .iter().map(|&x| x.min(u32::MAX as usize) as u32).collect();
+    let mut all: Vec<u32> = [
+        length,
+        c.kind,
+        c.n,
+        c.dim,
+        c.degree,
+        c.beam,
+        c.alpha,
+        c.extra,
+        c.start as usize,
+        c.k,
+        c.wide,
+        c.closed,
+        c.words,
+        c.floats,
+        c.ids,
+        c.dists,
+    ]
+    .iter()
+    .map(|&x| x.min(u32::MAX as usize) as u32)
+    .collect();
     let mut at = HEAD;
     for l in lists {
         all.extend([at as u32, l.len() as u32]);
@@ -127,7 +152,20 @@ fn data_of(r: &mut Rng, n: usize, most: usize) -> (Data, usize) {
 
 fn case_of(kind: usize, d: &Data, alpha: usize) -> Case {
     let Params { degree, beam, extra, .. } = d.params;
-    Case { kind, n: d.n, dim: d.dim, degree, beam, alpha, extra, start: d.start, vectors: d.vectors.clone(), words: 6 * d.n + 32_768, floats: 4 * d.n + 1_024, ..Case::default() }
+    Case {
+        kind,
+        n: d.n,
+        dim: d.dim,
+        degree,
+        beam,
+        alpha,
+        extra,
+        start: d.start,
+        vectors: d.vectors.clone(),
+        words: 6 * d.n + 32_768,
+        floats: 4 * d.n + 1_024,
+        ..Case::default()
+    }
 }
 
 /// 000's wide and closed rows.
@@ -155,12 +193,36 @@ fn medoid(r: &mut Rng, n: usize, most: usize) -> (Case, Left) {
 fn search(r: &mut Rng, n: usize, most: usize) -> (Case, Left) {
     let (d, alpha) = data_of(r, n, most);
     let table = searched(r, n, d.params.degree);
-    let beam = match r.below(5) { 0 => 0, 1 => 256, _ => 1 + r.below(40) };
-    let query: Vec<u8> = if r.below(3) == 0 { let i = r.below(n); d.vectors[i * d.dim..(i + 1) * d.dim].to_vec() } else { (0..d.dim).map(|_| r.next() as u8).collect() };
-    let found = probe::search(probe::Search { dim: d.dim, vectors: &d.vectors, degree: d.params.degree, table: &table, query: &query, start: d.start, beam });
+    let beam = match r.below(5) {
+        0 => 0,
+        1 => 256,
+        _ => 1 + r.below(40),
+    };
+    let query: Vec<u8> = if r.below(3) == 0 {
+        let i = r.below(n);
+        d.vectors[i * d.dim..(i + 1) * d.dim].to_vec()
+    } else {
+        (0..d.dim).map(|_| r.next() as u8).collect()
+    };
+    let found = probe::search(probe::Search {
+        dim: d.dim,
+        vectors: &d.vectors,
+        degree: d.params.degree,
+        table: &table,
+        query: &query,
+        start: d.start,
+        beam,
+    });
     let k = beam.max(1);
     let c = Case { beam, k, query, table, words: 2 * n + 256, floats: n + 256, ids: k, dists: k, ..case_of(SEARCH, &d, alpha) };
-    let l = Left { count: found.len(), ids: found.iter().map(|p| p.0).collect(), dists: found.iter().map(|p| p.1 as u32).collect(), words: c.words, floats: c.floats, ..Left::default() };
+    let l = Left {
+        count: found.len(),
+        ids: found.iter().map(|p| p.0).collect(),
+        dists: found.iter().map(|p| p.1 as u32).collect(),
+        words: c.words,
+        floats: c.floats,
+        ..Left::default()
+    };
     (c, l)
 }
 
@@ -198,7 +260,11 @@ fn batch(r: &mut Rng, n: usize, most: usize) -> (Case, Left) {
     let (d, alpha) = data_of(r, n, most);
     let s = slack(d.params.degree);
     let table = rows(r, n, s.min(n - 1));
-    let count = match r.below(4) { 0 => n, 1 => 0, _ => r.below(n + 1) };
+    let count = match r.below(4) {
+        0 => n,
+        1 => 0,
+        _ => r.below(n + 1),
+    };
     let list = r.distinct(count, n, &[]);
     let seeds = seeds(r, &d, list.len());
     let wide = built(&d, &list, &seeds, table.clone()).0;
@@ -229,29 +295,118 @@ fn open(r: &mut Rng, n: usize, most: usize) -> (Case, Left) {
 fn spoil(r: &mut Rng, c: &mut Case, number: u32) -> bool {
     let (n, degree) = (c.n, c.degree);
     match (number, c.kind) {
-        (1, DISTANCE) => { c.vectors = vec![9; r.pick(&[0, 257])]; }
-        (11, DISTANCE) => { c.query.push(1); }
-        (_, DISTANCE) => return false,
-        (1, MEDOID | SEARCH | BUILD | BATCH | CLOSE) => { c.dim = r.pick(&[0, 257]); }
-        (2, MEDOID | SEARCH | BUILD | BATCH | CLOSE) => { match r.below(3) { 0 => c.n = r.pick(&[0, 65_537]), 1 => c.vectors.push(3), _ => { c.vectors.pop(); } } }
-        (2, OPEN) => { c.n = r.pick(&[0, 65_537]); }
-        (3, SEARCH | BUILD | BATCH | CLOSE | OPEN) => { c.degree = r.pick(&[0, 65]); }
-        (4, SEARCH | BUILD | BATCH) => { c.beam = r.pick(&[257, 100_000]); }
-        (5, BUILD | BATCH | CLOSE) => { c.alpha = 9 + r.below(3); }
-        (6, SEARCH | BUILD | BATCH) => { c.start = r.pick(&[n as u32, PAD]); }
-        (7, BUILD | BATCH) => {
-            if r.below(3) == 0 { c.extra = r.pick(&[17, n]) } else if c.seeds.is_empty() || r.below(2) == 0 { c.seeds.push(0) } else { let i = r.below(c.seeds.len()); c.seeds[i] = r.pick(&[n as u32, c.start]); }
+        (1, DISTANCE) => {
+            c.vectors = vec![9; r.pick(&[0, 257])];
         }
-        (8, SEARCH) => { if r.below(2) == 0 { c.table.push(PAD) } else { let i = r.below(c.table.len()); c.table[i] = n as u32 } }
-        (8, BUILD | OPEN) => { match r.below(3) { 0 => c.wide += 1, 1 => c.table.push(PAD), _ => { let i = r.below(c.table.len()); c.table[i] = r.pick(&[n as u32, (i / degree) as u32]) } } }
-        (8, CLOSE) => { match r.below(3) { 0 => c.closed -= 1, 1 => c.table.push(PAD), _ => { let i = r.below(c.table.len()); c.table[i] = r.pick(&[n as u32, (i / slack(degree)) as u32]) } } }
-        (8, BATCH) => { if r.below(2) == 0 { c.table.push(PAD) } else { let i = r.below(c.table.len()); c.table[i] = r.pick(&[n as u32, (i / slack(degree)) as u32]) } }
-        (9, BUILD) => { if r.below(2) == 0 || n == 1 { c.list[0] = n as u32 } else { c.list[0] = c.list[n - 1] } }
-        (9, BATCH) => { if c.list.is_empty() { return false } if c.list.len() == 1 || r.below(2) == 0 { c.list[0] = n as u32 } else { c.list[0] = c.list[1] } }
-        (10, SEARCH) => { match r.below(4) { 0 => c.words -= 1, 1 => c.floats -= 1, 2 => c.ids -= 1, _ => c.dists -= 1 } }
-        (10, BUILD | BATCH | CLOSE) => { if r.below(2) == 0 { c.words -= 1 } else { c.floats -= 1 } }
-        (11, SEARCH) => { c.query.push(7); }
-        (12, MEDOID) => { match r.below(3) { 0 => c.list.clear(), 1 => c.list = vec![0; 9], _ => c.list[0] = n as u32 } }
+        (11, DISTANCE) => {
+            c.query.push(1);
+        }
+        (_, DISTANCE) => return false,
+        (1, MEDOID | SEARCH | BUILD | BATCH | CLOSE) => {
+            c.dim = r.pick(&[0, 257]);
+        }
+        (2, MEDOID | SEARCH | BUILD | BATCH | CLOSE) => match r.below(3) {
+            0 => c.n = r.pick(&[0, 65_537]),
+            1 => c.vectors.push(3),
+            _ => {
+                c.vectors.pop();
+            }
+        },
+        (2, OPEN) => {
+            c.n = r.pick(&[0, 65_537]);
+        }
+        (3, SEARCH | BUILD | BATCH | CLOSE | OPEN) => {
+            c.degree = r.pick(&[0, 65]);
+        }
+        (4, SEARCH | BUILD | BATCH) => {
+            c.beam = r.pick(&[257, 100_000]);
+        }
+        (5, BUILD | BATCH | CLOSE) => {
+            c.alpha = 9 + r.below(3);
+        }
+        (6, SEARCH | BUILD | BATCH) => {
+            c.start = r.pick(&[n as u32, PAD]);
+        }
+        (7, BUILD | BATCH) => {
+            if r.below(3) == 0 {
+                c.extra = r.pick(&[17, n])
+            } else if c.seeds.is_empty() || r.below(2) == 0 {
+                c.seeds.push(0)
+            } else {
+                let i = r.below(c.seeds.len());
+                c.seeds[i] = r.pick(&[n as u32, c.start]);
+            }
+        }
+        (8, SEARCH) => {
+            if r.below(2) == 0 {
+                c.table.push(PAD)
+            } else {
+                let i = r.below(c.table.len());
+                c.table[i] = n as u32
+            }
+        }
+        (8, BUILD | OPEN) => match r.below(3) {
+            0 => c.wide += 1,
+            1 => c.table.push(PAD),
+            _ => {
+                let i = r.below(c.table.len());
+                c.table[i] = r.pick(&[n as u32, (i / degree) as u32])
+            }
+        },
+        (8, CLOSE) => match r.below(3) {
+            0 => c.closed -= 1,
+            1 => c.table.push(PAD),
+            _ => {
+                let i = r.below(c.table.len());
+                c.table[i] = r.pick(&[n as u32, (i / slack(degree)) as u32])
+            }
+        },
+        (8, BATCH) => {
+            if r.below(2) == 0 {
+                c.table.push(PAD)
+            } else {
+                let i = r.below(c.table.len());
+                c.table[i] = r.pick(&[n as u32, (i / slack(degree)) as u32])
+            }
+        }
+        (9, BUILD) => {
+            if r.below(2) == 0 || n == 1 {
+                c.list[0] = n as u32
+            } else {
+                c.list[0] = c.list[n - 1]
+            }
+        }
+        (9, BATCH) => {
+            if c.list.is_empty() {
+                return false;
+            }
+            if c.list.len() == 1 || r.below(2) == 0 {
+                c.list[0] = n as u32
+            } else {
+                c.list[0] = c.list[1]
+            }
+        }
+        (10, SEARCH) => match r.below(4) {
+            0 => c.words -= 1,
+            1 => c.floats -= 1,
+            2 => c.ids -= 1,
+            _ => c.dists -= 1,
+        },
+        (10, BUILD | BATCH | CLOSE) => {
+            if r.below(2) == 0 {
+                c.words -= 1
+            } else {
+                c.floats -= 1
+            }
+        }
+        (11, SEARCH) => {
+            c.query.push(7);
+        }
+        (12, MEDOID) => match r.below(3) {
+            0 => c.list.clear(),
+            1 => c.list = vec![0; 9],
+            _ => c.list[0] = n as u32,
+        },
         _ => return false,
     }
     true

@@ -7,7 +7,7 @@ fn main() {
     let here = PathBuf::from(env::var_os("CARGO_MANIFEST_DIR").expect("cargo names the crate's folder"));
     let folder = env::var_os("FJALGROUT_LIB").map_or_else(|| here.join("../target/staticlib"), PathBuf::from);
     let archive = folder.join("libfjalgrout.a");
-    assert!(archive.is_file(), "no {}: run `rt staticlib fjalgrout` in the repository", archive.display());
+    assert!(archive.is_file(), "no {}: run bin/staticlib in the repository", archive.display());
     println!("cargo:rustc-link-search=native={}", folder.display());
     println!("cargo:rustc-link-lib=static=fjalgrout");
     println!("cargo:rerun-if-changed={}", archive.display());
