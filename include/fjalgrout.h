@@ -135,8 +135,10 @@ fjalgrout_answer fjalgrout_build(size_t n, size_t dim, const uint8_t *vectors, s
                                  size_t opening_count, uint32_t *wide, size_t wide_count, uint32_t *closed, size_t closed_count, uint32_t *words,
                                  size_t words_count, float *floats, size_t floats_count);
 
-/* Search: `count` answers by distance, then id, at most k, as ids and distances; the outputs beyond them are untouched. Beam 0 acts as 1, k = 0 gives
- * no answers. Room: search_words, search_floats; each output most_answers. Numbers 1, 2, 3, 4, 6, 8, 10, 11. */
+/* Search: `count` answers by distance, then id, as ids and distances; the outputs beyond them are untouched. Beam 0 acts as 1, k = 0 gives no answers.
+ * There are at most most_answers of them, min(k, max(beam, 1)). Fewer than that are all that the rows lead to from the start. As many as that: an entry
+ * that is missing can be reached only by passing some entry that is no nearer than the last answer. (It may be nearer itself: the search is greedy.)
+ * Room: search_words, search_floats; each output most_answers. Numbers 1, 2, 3, 4, 6, 8, 10, 11. */
 fjalgrout_answer fjalgrout_search(size_t n, size_t dim, const uint8_t *vectors, size_t vectors_count, size_t degree, size_t beam, size_t k,
                                   uint32_t start, const uint32_t *table, size_t table_count, const uint8_t *query, size_t query_count,
                                   uint32_t *words, size_t words_count, float *floats, size_t floats_count, uint32_t *ids, size_t ids_count,

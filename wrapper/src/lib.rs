@@ -209,8 +209,12 @@ pub fn build(
     done(answer).map(drop)
 }
 
-/// Search: how many answers there are, by distance, then id, at the front of `ids` and `dists`; what lies beyond them is untouched. Scratch:
-/// [`search_room`]; each output [`most_answers`]. Numbers 1, 2, 3, 4, 6, 8, 10, 11.
+/// Search: how many answers there are, by distance, then id, at the front of `ids` and `dists`; what lies beyond them is untouched.
+///
+/// There are at most [`most_answers`] of them, min(k, max(beam, 1)). Fewer than that are all that the rows lead to from the start. As many as that: an
+/// entry that is missing can be reached only by passing some entry that is no nearer than the last answer. (It may be nearer itself: the search is greedy.)
+///
+/// Scratch: [`search_room`]; each output [`most_answers`]. Numbers 1, 2, 3, 4, 6, 8, 10, 11.
 pub fn search(vectors: Vectors, table: Table, wanted: Wanted, query: &[u8], scratch: Scratch, ids: &mut [u32], dists: &mut [f32]) -> Result<usize, Refusal> {
     let Vectors { n, dim, bytes } = vectors;
     let Scratch { words, floats } = scratch;
