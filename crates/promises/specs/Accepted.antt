@@ -14,7 +14,7 @@ use Rattle.definition.specs.Floats.{four, above}
 use Rattle.definition.specs.Slack.{slack}
 use Rattle.definition.specs.Refusals.{BatchCall, OpenCall, CloseCall, BuildCall, MedoidCall, SearchCall, batchNumber, openNumber, closeNumber, buildNumber}
 use Rattle.definition.specs.Refusals.{medoidNumber, searchNumber, searchNumberAt, searchShort, recordsNumber}
-use Rattle.definition.specs.Refusals.{_when_else_, badCount, badVectors, badAlpha, badStart, badExtra, goodGroup, badSeeds, badLength, badTable, badSearched}
+use Rattle.definition.specs.Refusals.{_when_else_, badDim, badCount, badVectors, badAlpha, badStart, badExtra, goodGroup, badSeeds, badLength, badTable, badSearched}
 use Rattle.definition.specs.Refusals.{badNodes, badOrder, badPivots}
 use Rattle.definition.specs.Outcome.{byNumber}
 use Rattle.definition.specs.Seek.{values, malformed, seekCall, seekNumber}
@@ -51,6 +51,10 @@ unfolding byNumber
 success k kept done e = ap (λ (j : ℕ). byNumber j kept done) e
 
 -- ---- check by check
+
+dim-most : (dim : ℕ) → badDim dim ≡ false → dim ≤ 256
+unfolding badDim
+dim-most dim h = ltb-false 256 dim (or-neither (eqb dim 0) (ltb 256 dim) h .1)
 
 pub count-some : (n : ℕ) → badCount n ≡ false → 0 < n
 unfolding badCount
@@ -205,6 +209,7 @@ build-accepted c e =
     }
 
 pub record MedoidAccepted (c : MedoidCall) : Type 0 where
+  pub wide : c .dim ≤ 256
   pub some : 0 < c .n
   pub few : length (c .pivots) ≤ 8
 
@@ -217,6 +222,7 @@ medoid-accepted c e =
     let outside = not (each (λ p. ltb p (c .n)) (c .pivots)) in
     let pivots = or-neither (eqb (length (c .pivots)) 0) (ltb 8 (length (c .pivots)) || outside) (p₁₂ .0) .1 in
     record {
+      wide = dim-most (c .dim) (p₁ .0);
       some = count-some (c .n) (or-neither (badCount (c .n)) (not (eqb (length (c .vectors)) (c .n * c .dim))) (p₂ .0) .0);
       few = ltb-false 8 (length (c .pivots)) (or-neither (ltb 8 (length (c .pivots))) outside pivots .0);
     }

@@ -3,7 +3,7 @@
 --   Kept, Rule, Rows        demand 3, first sentence: what rows are; that the test of 8 says so; that every call leaves them so
 --   Pruned, Rounds, Slack   what pruning leaves; its rounds end; the slack in whole numbers
 --   Tells, Searching, Ends  demand 3, second sentence: what answers tell and exclude; of every accepted search; a greedy search ends
---   Metrics, Medoid         what a distance is; the medoid's score
+--   Metrics, Medoid         what a distance is; the medoid's score, and that the least wins
 --   Drawn                   what is drawn is acceptable
 --   Accepted, Numbers       what an accepted call has; a check that is passed is not the number returned
 -- The folders build, search and draws hold what these are proved from.
