@@ -8,14 +8,9 @@ use native.Mathlib.Omega.{arith}
 use lib.ListN.{length, getD, drop, drop-of-length-le}
 use lib.Seq.{drop-cons}
 use lib.Ieee.{Float, binary32, add, lt}
-use lib.Dec.{ltb, eqb}
 use Rattle.definition.specs.Metric.{whole}
 use Rattle.definition.specs.Floats.{nought}
-use Rattle.definition.specs.Refusals.{badPivots}
 use Rattle.definition.specs.Medoid.{scoreFrom, score, challenge, leader, medoid}
-use Rattle.laws.specs.Truth.{or-neither}
-use Rattle.checks.specs.Bools.{not-false}
-use Rattle.checks.specs.Below.{allBelow}
 
 -- ---- score
 pub score-turn : (pair : ℕ → ℕ → ℕ) (pivots : List ℕ) (i j : ℕ) (total x : Float) → j < length pivots → x ≡ whole (pair i (getD pivots j 0))
@@ -76,8 +71,3 @@ unfolding leader
 lead-end scores m n id least i h l =
     let q : n - i ≡ 0 = omega arith in
     subst (λ (z : ℕ). leader scores (record { id = id; total = least }) i z .id ≡ m) q (l .leads)
-
--- accepted pivots are below n
-pub pivots-good : (n : ℕ) (pivots : List ℕ) → badPivots n pivots ≡ false → allBelow n pivots ≡ true
-unfolding badPivots allBelow
-pivots-good n pivots e = not-false _ (or-neither (ltb 8 (length pivots)) _ (or-neither (eqb (length pivots) 0) _ e .1) .1)

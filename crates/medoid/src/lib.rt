@@ -1,8 +1,5 @@
 // Part 8. Medoid: the entry with the least sum of distances to the pivots, the lower id on equality.
 
-use checks::limits::bad_dim;
-use checks::limits::bad_vectors;
-use checks::sets::bad_pivots;
 use definition::Answer;
 ghost use mathlib.Core.Path.{_≡_};
 ghost use mathlib.Core.Bool.{true};
@@ -51,14 +48,9 @@ fn leader(n: usize, dim: usize, vectors: &[u8], pivots: &[u32]) -> usize
 pub fn medoid(n: usize, dim: usize, vectors: &[u8], pivots: &[u32]) -> Answer
     ensures { λ r. ⌜ r ≡ medoidOut (record { n = n; dim = dim; vectors = now (vectors .entry); pivots = now (pivots .entry) }) ⌝ }
 {
-    if bad_dim(dim) {
-        return answer::refused(1);
-    }
-    if bad_vectors(n, dim, vectors) {
-        return answer::refused(2);
-    }
-    if bad_pivots(n, pivots) {
-        return answer::refused(12);
+    let number = numbers::medoid_number(n, dim, vectors, pivots);
+    if number != 0 {
+        return answer::refused(number);
     }
     let id = leader(n, dim, vectors, pivots);
     answer::chosen(id as u32)
