@@ -1,7 +1,7 @@
 -- What is drawn is acceptable: what a drawing call that is not refused leaves is not refused by the calls that take it. Opening rows: 8 does not come from open
 -- or build. An order: 9 does not come from build. Pivots: 12 does not come from medoid. Groups of seeds, one for each node, each drawn from any state: 7 does
--- not come from batch or build. And a single draw below m, m not 0, is below m.
-use Prim.Native.Nat.{ℕ, _*_, _<_, min}
+-- not come from batch or build. A single draw below m, m not 0, is below m. And opening rows are full: min(degree, n-1) ids each.
+use Prim.Native.Nat.{ℕ, _-_, _*_, _<_, min}
 use mathlib.Core.Path.{_≡_, refl, sym, ap, ap₂, _∙_, subst}
 use mathlib.Core.Logic.{_≢_}
 use mathlib.Core.Bool.{true, false, _||_}
@@ -10,6 +10,7 @@ use borrow.Author.Tests.{eqb-true, eq-eqb, not-false}
 use lib.Dec.{eqb}
 use lib.ListN.{length, take}
 use Rattle.definition.specs.Lists.{each, joined, over}
+use Rattle.definition.specs.Tables.{row, ids}
 use Rattle.definition.specs.Slack.{slack}
 use Rattle.definition.specs.Draws.{advance, rowsDrawn, seedsDrawn, orderDrawn, pivotsDrawn}
 use Rattle.definition.specs.Refusals.{RowsCall, SeedsCall, DrawsCall, BatchCall, OpenCall, BuildCall, MedoidCall, rowsNumber, seedsNumber, orderNumber}
@@ -27,7 +28,7 @@ use Rattle.promises.specs.Rows.{kept-accepted, right-length}
 use Rattle.promises.specs.draws.Pivots.{pivots-pass, pivots-many}
 use Rattle.promises.specs.draws.Permutation.{order-passes, order-many}
 use Rattle.promises.specs.draws.Group.{group-good, group-many}
-use Rattle.promises.specs.draws.Opening.{rows-kept}
+use Rattle.promises.specs.draws.Opening.{rows-kept, rows-full}
 
 -- a group that a seeds call left
 pub record DrawnFor (n start extra : ℕ) (group : List ℕ) : Type 0 where
@@ -44,9 +45,9 @@ draw-below m s h = drawn-lt m (advance s) h (advance-lt s)
 
 -- ---- opening rows
 
-pub drawn-rows-kept : (c : RowsCall) → rowsNumber c ≡ 0 → TableKept (c .n) (c .degree) (rowsOut c .out)
+rows-are : (c : RowsCall) → rowsNumber c ≡ 0 → rowsOut c .out ≡ rowsDrawn (c .n) (c .degree) (c .state) .words
 unfolding rowsOut rowsNumber fillDone badLength
-drawn-rows-kept c e =
+rows-are c e =
     let p₂ = passed 1 _ _ e in
     let p₃ = passed 2 _ _ (p₂ .1) in
     let p₈ = passed 7 _ _ (p₃ .1) in
@@ -54,9 +55,22 @@ drawn-rows-kept c e =
     let k = rows-kept (c .n) (c .degree) (c .state) (count-some (c .n) (p₂ .0)) in
     let size : length (c .table) ≡ c .n * c .degree = eqb-true (length (c .table)) (c .n * c .degree)
     (not-false (eqb (length (c .table)) (c .n * c .degree)) (p₈ .0)) in
-    subst (λ (l : List ℕ). TableKept (c .n) (c .degree) l)
-    (sym (ap (λ (o : FillOut). o .out) (success (rowsNumber c) (fillKept (rowsNumber c) (c .table) (c .state)) (fillDone d (c .table)) e) ∙ over-all
-    (d .words) (c .table) (k .size ∙ sym size))) k
+    ap (λ (o : FillOut). o .out) (success (rowsNumber c) (fillKept (rowsNumber c) (c .table) (c .state)) (fillDone d (c .table)) e) ∙ over-all
+    (d .words) (c .table) (k .size ∙ sym size)
+
+pub drawn-rows-kept : (c : RowsCall) → rowsNumber c ≡ 0 → TableKept (c .n) (c .degree) (rowsOut c .out)
+unfolding rowsNumber
+drawn-rows-kept c e =
+    subst (λ (l : List ℕ). TableKept (c .n) (c .degree) l) (sym (rows-are c e))
+    (rows-kept (c .n) (c .degree) (c .state) (count-some (c .n) (passed 1 _ _ e .0)))
+
+-- no row has fewer ids than it can: each has min(degree, n-1), none where n is 1
+pub drawn-rows-full : (c : RowsCall) → rowsNumber c ≡ 0 → (i : ℕ) → i < c .n → length (ids (row (c .degree) (rowsOut c .out) i)) ≡ min (c .degree) (c .n - 1)
+unfolding rowsNumber
+drawn-rows-full c e i h =
+    let count = passed 1 _ _ e .0 in
+    ap (λ (l : List ℕ). length (ids (row (c .degree) l i))) (rows-are c e)
+    ∙ rows-full (c .n) (c .degree) (c .state) (count-some (c .n) count) (count-low (c .n) count) i h
 
 rows-accepted : (c : RowsCall) → rowsNumber c ≡ 0 → (n degree : ℕ) (opening : List ℕ) → n ≡ c .n → degree ≡ c .degree → opening ≡ rowsOut c .out
     → badTable n degree opening ≡ false

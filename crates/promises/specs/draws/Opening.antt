@@ -1,19 +1,21 @@
--- Drawn opening rows keep the build rule: they pass 8.
+-- Drawn opening rows keep the build rule: they pass 8. And each has as many ids as it can: min(degree, n-1).
 use Prim.Native.Nat.{ℕ, zero, suc, _+_, _-_, _*_, _%_, _≤_, _<_, min, zero-le}
 use native.Mathlib.Nat.{one-mul, zero-mul, mod-lt, mod-eq-of-lt}
 use native.Mathlib.Omega.{arith}
 use mathlib.Core.Path.{_≡_, refl, sym, ap, ap₂, _∙_, subst}
+use mathlib.Core.Bool.{not}
 use mathlib.Core.List.{List, [], _++_, map, List·Memᴰ·not-nil as not-nil, Memᴰ·of-map as of-map}
-use borrow.Author.Tests.{leb-true, leb-false}
-use lib.Dec.{leb}
-use lib.ListN.{take, drop, replicate, length-replicate}
+use borrow.Author.Tests.{leb-true, leb-false, eq-eqb}
+use lib.Dec.{leb, eqb}
+use lib.ListN.{length, take, drop, replicate, length-replicate}
 use lib.Seq.{take-all}
 use Rattle.definition.specs.Lists.{joined, run, upto}
-use Rattle.definition.specs.Tables.{pad, row, padded, tableOf}
+use Rattle.definition.specs.Tables.{pad, row, ids, padded, tableOf}
 use Rattle.definition.specs.Draws.{Drawn, advance, drawn, rowIds, rowDrawn, rowsFrom, rowsDrawn}
 use Rattle.laws.specs.Truth.{branch}
-use Rattle.laws.specs.Members.{run-mem, run-same}
+use Rattle.laws.specs.Members.{run-mem, run-same, replicate-mem, keep-none}
 use Rattle.laws.specs.Apart.{nobody, apart-map, apart-run}
+use Rattle.laws.specs.Tables.{row-mem, row-tableOf, length-padded, ids-of}
 use Rattle.laws.specs.Draws.{length-ids}
 use Rattle.laws.specs.Remainders.{window, window-one}
 use Rattle.promises.specs.Kept.{RowKept, TableKept}
@@ -108,3 +110,43 @@ unfolding rowsDrawn
 rows-kept n degree s h =
     branch (λ (d : Drawn). TableKept n degree (d .words)) (leb n 1) (λ e. let l = leb-true n 1 e in one-kept n degree (omega arith))
     (λ e. many-kept n degree s (leb-false n 1 e))
+
+-- ---- how many ids
+
+row-length : (n degree i s : ℕ) → length (rowDrawn n degree i s) ≡ degree
+unfolding rowDrawn
+row-length n degree i s =
+    let m = min degree (n - 1) in
+    let l = length-ids n i (drawn (n - 1) s) m in
+    length-padded degree (rowIds n i (drawn (n - 1) s) (upto m)) (omega arith)
+
+row-full : (n degree i s : ℕ) → 1 < n → i < n → n < pad → length (ids (rowDrawn n degree i s)) ≡ min degree (n - 1)
+unfolding rowDrawn padded
+row-full n degree i s more own low =
+    let m = min degree (n - 1) in
+    let xs = rowIds n i (drawn (n - 1) s) (upto m) in
+    let fit = ids-fit n i (drawn (n - 1) s) more own m (omega arith) in
+    ap length (ids-of xs (degree - length xs) (λ x h e. let b = fit .below x h in omega arith)) ∙ length-ids n i (drawn (n - 1) s) m
+
+many-full : (n degree s : ℕ) → 1 < n → n < pad → (i : ℕ) → i < n → length (ids (row degree (rowsFrom n degree 0 n s .words) i)) ≡ min degree (n - 1)
+unfolding tableOf upto drawnRow
+many-full n degree s more low i h =
+    let wide : (j : ℕ) → j < n → length (drawnRow n degree 0 s j) ≡ degree = λ j b. row-length n degree j (after (suc (j - 0)) s) in
+    ap (λ (t : List ℕ). length (ids (row degree t i))) (rows-are n degree 0 n s)
+    ∙ ap (λ (w : List ℕ). length (ids w)) (row-tableOf n degree (drawnRow n degree 0 s) wide i h)
+    ∙ row-full n degree i (after (suc (i - 0)) s) more h low
+
+-- of nothing but padding
+one-full : (n degree k i : ℕ) → n ≡ 1 → length (ids (row degree (replicate k pad) i)) ≡ min degree (n - 1)
+unfolding ids
+one-full n degree k i e =
+    let none = keep-none (λ w. not (eqb w pad)) (row degree (replicate k pad) i)
+    (λ w m. ap not (eq-eqb w pad (replicate-mem k pad (row-mem degree (replicate k pad) i m)))) in
+    ap length none ∙ omega arith
+
+pub rows-full : (n degree s : ℕ) → 0 < n → n < pad → (i : ℕ) → i < n → length (ids (row degree (rowsDrawn n degree s .words) i)) ≡ min degree (n - 1)
+unfolding rowsDrawn
+rows-full n degree s some low i h =
+    branch (λ (d : Drawn). length (ids (row degree (d .words) i)) ≡ min degree (n - 1)) (leb n 1)
+    (λ e. let l = leb-true n 1 e in one-full n degree (n * degree) i (omega arith))
+    (λ e. many-full n degree s (leb-false n 1 e) low i h)
