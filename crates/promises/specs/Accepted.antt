@@ -14,8 +14,8 @@ use Rattle.definition.specs.Floats.{four, above}
 use Rattle.definition.specs.Slack.{slack}
 use Rattle.definition.specs.Refusals.{BatchCall, OpenCall, CloseCall, BuildCall, MedoidCall, SearchCall, batchNumber, openNumber, closeNumber, buildNumber}
 use Rattle.definition.specs.Refusals.{medoidNumber, searchNumber, searchNumberAt, searchShort, recordsNumber}
-use Rattle.definition.specs.Refusals.{_when_else_, badDim, badCount, badVectors, badAlpha, badStart, badExtra, goodGroup, badSeeds, badLength, badTable, badSearched}
-use Rattle.definition.specs.Refusals.{badNodes, badOrder, badPivots}
+use Rattle.definition.specs.Refusals.{_when_else_, badCount, badVectors, badAlpha, badStart, badExtra, goodGroup, badSeeds, badLength, badTable, badSearched}
+use Rattle.definition.specs.Refusals.{badDim, badNodes, badOrder, badPivots}
 use Rattle.definition.specs.Outcome.{byNumber}
 use Rattle.definition.specs.Seek.{values, malformed, seekCall, seekNumber}
 use Rattle.laws.specs.Truth.{and-both, or-neither}

@@ -1,18 +1,21 @@
 -- What is drawn is acceptable: what a drawing call that is not refused leaves is not refused by the calls that take it. Opening rows: 8 does not come from open
 -- or build. An order: 9 does not come from build. Pivots: 12 does not come from medoid. Groups of seeds, one for each node, each drawn from any state: 7 does
--- not come from batch or build. A single draw below m, m not 0, is below m. And opening rows are full: min(degree, n-1) ids each.
-use Prim.Native.Nat.{ℕ, _-_, _*_, _<_, min}
+-- not come from batch or build. A single draw below m, m not 0, is below m. Opening rows are full: min(degree, n-1) ids
+-- each. And each seed is found within so many tries.
+use Prim.Native.Nat.{ℕ, suc, _-_, _*_, _<_, min}
+use native.Mathlib.Omega.{arith}
 use mathlib.Core.Path.{_≡_, refl, sym, ap, ap₂, _∙_, subst}
 use mathlib.Core.Logic.{_≢_}
 use mathlib.Core.Bool.{true, false, _||_}
-use mathlib.Core.List.{List, List·Memᴰ as Mem}
+use mathlib.Core.List.{List, _∷_, List·Memᴰ as Mem}
 use borrow.Author.Tests.{eqb-true, eq-eqb, not-false}
 use lib.Dec.{eqb}
-use lib.ListN.{length, take}
+use lib.ListN.{length, getD, take}
+use lib.Seq.{take-take, getD-take}
 use Rattle.definition.specs.Lists.{each, joined, over}
 use Rattle.definition.specs.Tables.{row, ids}
 use Rattle.definition.specs.Slack.{slack}
-use Rattle.definition.specs.Draws.{advance, rowsDrawn, seedsDrawn, orderDrawn, pivotsDrawn}
+use Rattle.definition.specs.Draws.{advance, drawn, rowsDrawn, seedsDrawn, orderDrawn, pivotsDrawn}
 use Rattle.definition.specs.Refusals.{RowsCall, SeedsCall, DrawsCall, BatchCall, OpenCall, BuildCall, MedoidCall, rowsNumber, seedsNumber, orderNumber}
 use Rattle.definition.specs.Refusals.{pivotsNumber, batchNumber, openNumber, buildNumber, medoidNumber}
 use Rattle.definition.specs.Refusals.{badLength, badExtra, badSeeds, badTable, badOrder, badPivots, goodGroup}
@@ -25,9 +28,11 @@ use Rattle.promises.specs.Kept.{TableKept}
 use Rattle.promises.specs.Accepted.{passed, success, count-some, count-low, extra-below}
 use Rattle.promises.specs.Numbers.{batch-not-7, open-not-8, build-not-7, build-not-8, build-not-9, medoid-not-12}
 use Rattle.promises.specs.Rows.{kept-accepted, right-length}
+use Rattle.promises.specs.draws.States.{after}
+use Rattle.promises.specs.draws.Tries.{FoundFrom}
 use Rattle.promises.specs.draws.Pivots.{pivots-pass, pivots-many}
 use Rattle.promises.specs.draws.Permutation.{order-passes, order-many}
-use Rattle.promises.specs.draws.Group.{group-good, group-many}
+use Rattle.promises.specs.draws.Group.{group-good, group-many, group-found}
 use Rattle.promises.specs.draws.Opening.{rows-kept, rows-full}
 
 -- a group that a seeds call left
@@ -130,6 +135,24 @@ seeds-are c e =
     let d = seedsDrawn (c .n) (c .start) (c .extra) (c .state) in
     ap (λ (o : FillOut). take (c .extra) (o .out)) (success (seedsNumber c) (fillKept (seedsNumber c) (c .out) (c .state)) (fillDone d (c .out)) e)
     ∙ over-front (d .words) (c .out) (c .extra) (group-many (c .n) (c .start) (c .extra) (c .state))
+
+-- the seed at place k is the first that is free of those from its draw on, with the start and the seeds before it taken. At most k + 1 places are passed over
+-- (so at most `extra` for any seed), and one more is looked at
+pub drawn-seeds-tries : (c : SeedsCall) → seedsNumber c ≡ 0 → (k : ℕ) → k < c .extra
+    → FoundFrom (c .n) (c .start ∷ take k (seedsOut c .out)) (drawn (c .n) (after (suc k) (c .state))) (suc k) (getD (seedsOut c .out) k 0)
+unfolding seedsNumber
+drawn-seeds-tries c e k h =
+    let p₂ = passed 1 _ _ e in
+    let p₆ = passed 5 _ _ (p₂ .1) in
+    let p₇ = passed 6 _ _ (p₆ .1) in
+    let r = drawn (c .n) (after (suc k) (c .state)) in
+    let words = seedsDrawn (c .n) (c .start) (c .extra) (c .state) .words in
+    let front : take k words ≡ take k (seedsOut c .out) = ap (take k) (sym (seeds-are c e)) ∙ take-take k (c .extra) (seedsOut c .out) (omega arith) in
+    let at : getD words k 0 ≡ getD (seedsOut c .out) k 0 =
+    ap (λ (l : List ℕ). getD l k 0) (sym (seeds-are c e)) ∙ getD-take (c .extra) (seedsOut c .out) k 0 h in
+    subst (λ (x : ℕ). FoundFrom (c .n) (c .start ∷ take k (seedsOut c .out)) r (suc k) x) at
+    (subst (λ (l : List ℕ). FoundFrom (c .n) (c .start ∷ l) r (suc k) (getD words k 0)) front
+    (group-found (c .n) (c .start) (c .extra) (c .state) (extra-below (c .n) (c .extra) (p₇ .0)) k h))
 
 module _ (n start extra : ℕ) (limits : badExtra n extra ≡ false) where
   -- it is some state's

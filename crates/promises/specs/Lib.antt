@@ -4,7 +4,7 @@
 --   Pruned, Rounds, Slack   what pruning leaves; its rounds end; the slack in whole numbers
 --   Tells, Searching, Ends  demand 3, second sentence: what answers tell and exclude; of every accepted search; a greedy search ends
 --   Metrics, Medoid         what a distance is; the medoid's score, and that the least wins
---   Drawn                   what is drawn is acceptable
+--   Drawn                   what is drawn is acceptable; rows are full; how soon a seed is found
 --   Accepted, Numbers       what an accepted call has; a check that is passed is not the number returned
 -- The folders build, search and draws hold what these are proved from.
 pub mod Slack

@@ -17,7 +17,8 @@ use Rattle.definition.specs.Medoid.{score, Leader, challenge, leader, medoid}
 use Rattle.definition.specs.Refusals.{MedoidCall, medoidNumber}
 use Rattle.definition.specs.Outcome.{answer, refused, medoidOut}
 use Rattle.definition.specs.declared.Answer.{Answer}
-use Rattle.laws.specs.Truth.{branch, decide}
+use Rattle.laws.specs.Truth.{branch}
+use Rattle.laws.specs.Below.{one-further}
 use Rattle.whole.specs.Whole.{limit}
 use Rattle.whole.specs.Values.{lt-values}
 use Rattle.whole.specs.Order.{lt-whole}
@@ -64,10 +65,6 @@ medoid-within dim vectors pivots i small few bytes =
     score-within (between dim vectors) pivots i (λ p. let b = between-most dim vectors bytes i p in omega arith) few
 
 -- ---- the least wins: over any scores that compare as numbers do
-
--- what holds below i, and of i, holds below i + 1
-one-further : (P : ℕ → Type 0) (i : ℕ) → ((j : ℕ) → j < i → P j) → P i → (j : ℕ) → j < suc i → P j
-one-further P i f p j h = decide (ltb j i) (λ t. f j (ltb-true j i t)) (λ t. let le = ltb-false j i t in let q : i ≡ j = omega arith in subst P q p)
 
 module _ (f : ℕ → ℕ) (scores : ℕ → Float) (alike : (a b : ℕ) → lt (scores a) (scores b) ≡ ltb (f a) (f b)) where
   -- the leader of the entries below i

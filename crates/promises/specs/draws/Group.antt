@@ -1,53 +1,23 @@
--- A drawn group of seeds passes 7: below n, not the start, no repeats, as many as asked.
+-- A drawn group of seeds passes 7: below n, not the start, no repeats, as many as asked. And how soon each is found.
 use Prim.Native.Nat.{ℕ, zero, suc, _+_, _%_, _<_}
 use native.Mathlib.Nat.{mod-lt}
-use native.Mathlib.Numerals.{add-one}
 use native.Mathlib.Omega.{arith}
-use mathlib.Core.Path.{_≡_, _∙_, subst}
-use mathlib.Core.Logic.{_⊎_, inl, inr}
-use mathlib.Core.Bool.{Bool, true, false, not, _&&_}
-use mathlib.Core.List.{List, [], _∷_, _++_, map, List·Memᴰ as Mem, List·Memᴰ·head as here, List·Memᴰ·tail as there, List·Memᴰ·not-nil as not-nil}
+use mathlib.Core.Path.{_≡_, refl, sym, _∙_, subst}
+use mathlib.Core.Bool.{Bool, true, not, _&&_}
+use mathlib.Core.List.{List, [], _∷_, _++_, append-nil, append-assoc, List·Memᴰ as Mem, List·Memᴰ·head as here, List·Memᴰ·tail as there}
+use mathlib.Core.List.{List·Memᴰ·not-nil as not-nil}
 use borrow.Author.Tests.{lt-ltb, ne-eqb}
 use lib.Dec.{ltb, eqb}
-use lib.ListN.{length, length-append, length-map}
-use Rattle.definition.specs.Lists.{each, run, isIn, distinct}
+use lib.ListN.{length, getD, take, length-append}
+use lib.Seq.{take-at, getD-at}
+use Rattle.definition.specs.Lists.{each, isIn, distinct}
 use Rattle.definition.specs.Draws.{advance, drawn, firstFree, seedsFrom, seedsDrawn}
 use Rattle.definition.specs.Refusals.{goodGroup}
-use Rattle.laws.specs.Truth.{either, branch, both-and, is-not}
-use Rattle.laws.specs.Members.{isIn-mem, isIn-none, mem-each, cons-elim, snoc-elim, run-mem, length-run}
-use Rattle.laws.specs.Apart.{Apart, nobody, apart-snoc, apart-map, apart-run, apart-within, apart-distinct}
-use Rattle.laws.specs.Remainders.{window-one}
-
--- ---- the first that is free is free: there are n places, and fewer than n are taken
-
--- the places of r, r + 1, .., k of them
-abbrev tried : ℕ → ℕ → ℕ → List ℕ
-tried n r k = map (λ i. i % n) (run r k)
-
-tried-apart : (n r : ℕ) → Apart (tried n r n)
-tried-apart n r =
-    apart-map (λ i. i % n) (λ a b p q e. let x = run-mem r n p in let y = run-mem r n q in window-one n r a b (x .0) (x .1) (y .0) (y .1) e) (apart-run r n)
-
--- either it is free, or all that were tried are taken
-free-or-all : (n : ℕ) (taken : List ℕ) (fuel r : ℕ) → (isIn (firstFree n taken fuel r) taken ≡ false) ⊎ ((x : ℕ) → Mem x (tried n r fuel) → Mem x taken)
-unfolding firstFree run
-free-or-all n taken zero r = inr (λ x m. absurd (not-nil m))
-free-or-all n taken (suc fuel) r =
-    branch (λ (f : ℕ). (isIn f taken ≡ false) ⊎ ((x : ℕ) → Mem x (r % n ∷ tried n (suc r) fuel) → Mem x taken)) (isIn (r % n) taken)
-    (λ e. go e (subst (λ (i : ℕ). (isIn (firstFree n taken fuel (r + 1)) taken ≡ false) ⊎ ((x : ℕ) → Mem x (tried n i fuel) → Mem x taken)) (add-one r)
-    (free-or-all n taken fuel (r + 1)))) (λ e. inl e)
-  where
-    go : isIn (r % n) taken ≡ true → (isIn (firstFree n taken fuel (r + 1)) taken ≡ false) ⊎ ((x : ℕ) → Mem x (tried n (suc r) fuel) → Mem x taken)
-        → (isIn (firstFree n taken fuel (r + 1)) taken ≡ false) ⊎ ((x : ℕ) → Mem x (r % n ∷ tried n (suc r) fuel) → Mem x taken)
-    go e (inl h) = inl h
-    go e (inr f) = inr (cons-elim (λ x. Mem x taken) (r % n) (tried n (suc r) fuel) (isIn-mem (r % n) taken e) f)
-
-pub free-is-free : (n : ℕ) (taken : List ℕ) (r : ℕ) → length taken < n → isIn (firstFree n taken n r) taken ≡ false
-free-is-free n taken r h = go (free-or-all n taken n r)
-  where
-    go : (isIn (firstFree n taken n r) taken ≡ false) ⊎ ((x : ℕ) → Mem x (tried n r n) → Mem x taken) → isIn (firstFree n taken n r) taken ≡ false
-    go (inl e) = e
-    go (inr f) = absurd (omega (arith, apart-within taken (tried-apart n r) f, length-map (run r n) (λ i. i % n), length-run r n))
+use Rattle.laws.specs.Truth.{either, both-and, is-not}
+use Rattle.laws.specs.Members.{mem-each, snoc-elim}
+use Rattle.laws.specs.Apart.{Apart, nobody, apart-snoc, apart-distinct}
+use Rattle.promises.specs.draws.States.{after}
+use Rattle.promises.specs.draws.Tries.{FoundFrom, first-free-tries}
 
 free-below : (n : ℕ) (taken : List ℕ) (fuel r : ℕ) → 0 < n → firstFree n taken fuel r < n
 unfolding firstFree
@@ -65,7 +35,7 @@ good-more : (n start : ℕ) (group : List ℕ) (r : ℕ) → suc (length group) 
     → Good n start (group ++ (firstFree n (start ∷ group) n r ∷ []))
 good-more n start group r h g =
     let f = firstFree n (start ∷ group) n r in
-    let new = isIn-none f (start ∷ group) (free-is-free n (start ∷ group) r h) in
+    let new = first-free-tries n (start ∷ group) n r h (omega arith) .free in
     record {
       below = snoc-elim (λ x. x < n) group f (g .below) (free-below n (start ∷ group) n r (omega arith));
       others = snoc-elim (λ x. ¬ (x ≡ start)) group f (g .others) (λ e. new (here e));
@@ -105,3 +75,48 @@ unfolding seedsDrawn
 group-good n start extra s h =
     good-passes n start (seedsFrom n start extra [] s .words)
     (seeds-good n start extra [] s (omega arith) (record { below = λ x m. absurd (not-nil m); others = λ x m e. not-nil m; once = nobody }))
+
+-- ---- how soon each is found
+
+-- what is in the group stays at its front
+seeds-front : (n start k : ℕ) (group : List ℕ) (s : ℕ) → (rest : List ℕ) × (seedsFrom n start k group s .words ≡ group ++ rest)
+unfolding seedsFrom
+seeds-front n start zero group s = ([], sym (append-nil group))
+seeds-front n start (suc k) group s =
+    let f = firstFree n (start ∷ group) n (drawn n (advance s)) in
+    let r = seeds-front n start k (group ++ (f ∷ [])) (advance s) in
+    (f ∷ r .0, r .1 ∙ append-assoc group (f ∷ []) (r .0))
+
+-- in a list of words: the one at place k was found from a state's draw, with the start and those before it taken
+abbrev FoundAt : ℕ → ℕ → List ℕ → ℕ → ℕ → Type 0
+FoundAt n start words state k = FoundFrom n (start ∷ take k words) (drawn n state) (suc k) (getD words k 0)
+
+seeds-found : (n start k : ℕ) (group : List ℕ) (s : ℕ) → length group + k < n
+    → (i : ℕ) → i < k → FoundAt n start (seedsFrom n start k group s .words) (after (suc i) s) (length group + i)
+unfolding seedsFrom after
+seeds-found n start zero group s h i b = absurd (omega arith)
+seeds-found n start (suc k) group s h zero b =
+    let f = firstFree n (start ∷ group) n (drawn n (advance s)) in
+    let r = seeds-front n start k (group ++ (f ∷ [])) (advance s) in
+    let e = r .1 ∙ append-assoc group (f ∷ []) (r .0) in
+    let z : length group ≡ length group + 0 = omega arith in
+    let found = first-free-tries n (start ∷ group) n (drawn n (advance s)) (omega arith) (omega arith) in
+    let here : FoundAt n start (group ++ (f ∷ r .0)) (advance s) (length group) =
+    subst (λ (x : ℕ). FoundFrom n (start ∷ take (length group) (group ++ (f ∷ r .0))) (drawn n (advance s)) (suc (length group)) x)
+    (sym (getD-at group f (r .0) 0 (length group) refl))
+    (subst (λ (l : List ℕ). FoundFrom n (start ∷ l) (drawn n (advance s)) (suc (length group)) f) (sym (take-at group (f ∷ r .0) (length group) refl)) found) in
+    subst (λ (m : ℕ). FoundAt n start (seedsFrom n start k (group ++ (f ∷ [])) (advance s) .words) (advance s) m) z
+    (subst (λ (w : List ℕ). FoundAt n start w (advance s) (length group)) (sym e) here)
+seeds-found n start (suc k) group s h (suc i) b =
+    let f = firstFree n (start ∷ group) n (drawn n (advance s)) in
+    let l = length-append group (f ∷ []) in
+    let q : length (group ++ (f ∷ [])) + i ≡ length group + suc i = omega arith in
+    subst (λ (m : ℕ). FoundAt n start (seedsFrom n start k (group ++ (f ∷ [])) (advance s) .words) (after (suc i) (advance s)) m) q
+    (seeds-found n start k (group ++ (f ∷ [])) (advance s) (omega arith) i (omega arith))
+
+pub group-found : (n start extra s : ℕ) → extra < n → (k : ℕ) → k < extra
+    → FoundFrom n (start ∷ take k (seedsDrawn n start extra s .words)) (drawn n (after (suc k) s)) (suc k) (getD (seedsDrawn n start extra s .words) k 0)
+unfolding seedsDrawn
+group-found n start extra s h k b =
+    let z : 0 + k ≡ k = omega arith in
+    subst (λ (m : ℕ). FoundAt n start (seedsFrom n start extra [] s .words) (after (suc k) s) m) z (seeds-found n start extra [] s (omega arith) k b)

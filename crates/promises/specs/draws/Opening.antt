@@ -15,10 +15,11 @@ use Rattle.definition.specs.Draws.{Drawn, advance, drawn, rowIds, rowDrawn, row
 use Rattle.laws.specs.Truth.{branch}
 use Rattle.laws.specs.Members.{run-mem, run-same, replicate-mem, keep-none}
 use Rattle.laws.specs.Apart.{nobody, apart-map, apart-run}
-use Rattle.laws.specs.Tables.{row-mem, row-tableOf, length-padded, ids-of}
-use Rattle.laws.specs.Draws.{length-ids}
+use Rattle.laws.specs.Tables.{row-mem, row-tableOf, ids-of}
+use Rattle.laws.specs.Draws.{length-ids, length-row}
 use Rattle.laws.specs.Remainders.{window, window-one}
 use Rattle.promises.specs.Kept.{RowKept, TableKept}
+use Rattle.promises.specs.draws.States.{after}
 use Rattle.promises.specs.Rule.{Fit, padded-kept, kept-table}
 
 -- ---- the ids of one row
@@ -60,11 +61,6 @@ row-kept n degree i s more own =
     padded-kept n degree i (rowIds n i r (upto m)) (ids-fit n i r more own m (omega arith)) (omega arith)
 
 -- ---- the table
-
--- the state after k draws
-after : ℕ → ℕ → ℕ
-after zero s = s
-after (suc k) s = after k (advance s)
 
 -- row j of those from row i on, which are drawn from state s
 drawnRow : ℕ → ℕ → ℕ → ℕ → ℕ → List ℕ
@@ -113,13 +109,6 @@ rows-kept n degree s h =
 
 -- ---- how many ids
 
-row-length : (n degree i s : ℕ) → length (rowDrawn n degree i s) ≡ degree
-unfolding rowDrawn
-row-length n degree i s =
-    let m = min degree (n - 1) in
-    let l = length-ids n i (drawn (n - 1) s) m in
-    length-padded degree (rowIds n i (drawn (n - 1) s) (upto m)) (omega arith)
-
 row-full : (n degree i s : ℕ) → 1 < n → i < n → n < pad → length (ids (rowDrawn n degree i s)) ≡ min degree (n - 1)
 unfolding rowDrawn padded
 row-full n degree i s more own low =
@@ -131,7 +120,7 @@ row-full n degree i s more own low =
 many-full : (n degree s : ℕ) → 1 < n → n < pad → (i : ℕ) → i < n → length (ids (row degree (rowsFrom n degree 0 n s .words) i)) ≡ min degree (n - 1)
 unfolding tableOf upto drawnRow
 many-full n degree s more low i h =
-    let wide : (j : ℕ) → j < n → length (drawnRow n degree 0 s j) ≡ degree = λ j b. row-length n degree j (after (suc (j - 0)) s) in
+    let wide : (j : ℕ) → j < n → length (drawnRow n degree 0 s j) ≡ degree = λ j b. length-row n degree j (after (suc (j - 0)) s) in
     ap (λ (t : List ℕ). length (ids (row degree t i))) (rows-are n degree 0 n s)
     ∙ ap (λ (w : List ℕ). length (ids w)) (row-tableOf n degree (drawnRow n degree 0 s) wide i h)
     ∙ row-full n degree i (after (suc (i - 0)) s) more h low
