@@ -33,7 +33,7 @@ pub record Least (f : ℕ → ℕ) (n m : ℕ) : Type 0 where
   pub least : (j : ℕ) → j < n → f m ≤ f j
   pub first : (j : ℕ) → j < m → f m < f j
 
--- m is the entry of the least f32, the lower id on equality
+-- m is the entry of the least f32, the lower id on equality. (Each score is a whole number, by medoid-within: no NaN is among them, and `lt` is their order.)
 pub record LeastScore (scores : ℕ → Float) (n m : ℕ) : Type 0 where
   pub inside : m < n
   pub least : (j : ℕ) → j < n → lt (scores j) (scores m) ≡ false
