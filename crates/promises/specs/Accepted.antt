@@ -209,7 +209,7 @@ build-accepted c e =
     }
 
 pub record MedoidAccepted (c : MedoidCall) : Type 0 where
-  pub wide : c .dim ≤ 256
+  pub dim-few : c .dim ≤ 256
   pub some : 0 < c .n
   pub few : length (c .pivots) ≤ 8
 
@@ -222,7 +222,7 @@ medoid-accepted c e =
     let outside = not (each (λ p. ltb p (c .n)) (c .pivots)) in
     let pivots = or-neither (eqb (length (c .pivots)) 0) (ltb 8 (length (c .pivots)) || outside) (p₁₂ .0) .1 in
     record {
-      wide = dim-most (c .dim) (p₁ .0);
+      dim-few = dim-most (c .dim) (p₁ .0);
       some = count-some (c .n) (or-neither (badCount (c .n)) (not (eqb (length (c .vectors)) (c .n * c .dim))) (p₂ .0) .0);
       few = ltb-false 8 (length (c .pivots)) (or-neither (ltb 8 (length (c .pivots))) outside pivots .0);
     }

@@ -133,7 +133,7 @@ chosen-least f pair pivots alike (suc n) h =
 module _ (c : MedoidCall) (bytes : Bytes (c .vectors)) (e : medoidNumber c ≡ 0) where
   pub medoid-call-within : (i : ℕ)
       → Within (exactScore (between (c .dim) (c .vectors)) (c .pivots) i) 21 (score (between (c .dim) (c .vectors)) (c .pivots) i)
-  medoid-call-within i = let a = medoid-accepted c e in medoid-within (c .dim) (c .vectors) (c .pivots) i (a .wide) (a .few) bytes
+  medoid-call-within i = let a = medoid-accepted c e in medoid-within (c .dim) (c .vectors) (c .pivots) i (a .dim-few) (a .few) bytes
 
   pub medoid-call-exact : c .dim ≤ 32 → (i : ℕ)
       → score (between (c .dim) (c .vectors)) (c .pivots) i ≡ whole (exactScore (between (c .dim) (c .vectors)) (c .pivots) i)
