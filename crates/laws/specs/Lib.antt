@@ -6,7 +6,8 @@
 --   Rising    `rising` depends only on which ids there are     Words      the search rule, as the code reads a row
 --   Items     the orders of items, ids, the best of a beam     Writing    a slice written from its front
 --   Draws     a draw below m is below m                        Remainders numbers less than m apart differ modulo m
---   Listed    the listed nodes with their fresh rows          Below      what holds of every number below a bound
+--   Listed    the listed nodes with their fresh rows           Places     what stands at a place of a list
+--   Below     what holds of every number below a bound
 pub mod Truth
 pub mod Members
 pub mod Apart
@@ -23,3 +24,4 @@ pub mod Draws
 pub mod Remainders
 pub mod Listed
 pub mod Below
+pub mod Places

@@ -1,7 +1,7 @@
 -- What a call has that is not refused: its checks, as facts.
-use Prim.Native.Nat.{ℕ, suc, _*_, _≤_, _<_}
+use Prim.Native.Nat.{ℕ, zero, suc, _*_, _≤_, _<_}
 use native.Mathlib.Omega.{arith}
-use mathlib.Core.Path.{_≡_, refl, ap}
+use mathlib.Core.Path.{_≡_, refl, sym, ap, _∙_}
 use mathlib.Core.Bool.{Bool, true, false, not, _&&_, _||_}
 use mathlib.Core.List.{List, List·Memᴰ as Mem}
 use borrow.Author.Tests.{ltb-true, ltb-false, leb-false, eqb-true, eqb-false, not-false}
@@ -15,7 +15,7 @@ use Rattle.definition.specs.Slack.{slack}
 use Rattle.definition.specs.Refusals.{BatchCall, OpenCall, CloseCall, BuildCall, MedoidCall, SearchCall, batchNumber, openNumber, closeNumber, buildNumber}
 use Rattle.definition.specs.Refusals.{medoidNumber, searchNumber, searchNumberAt, searchShort, recordsNumber}
 use Rattle.definition.specs.Refusals.{_when_else_, badCount, badVectors, badAlpha, badStart, badExtra, goodGroup, badSeeds, badLength, badTable, badSearched}
-use Rattle.definition.specs.Refusals.{badDim, badNodes, badOrder, badPivots}
+use Rattle.definition.specs.Refusals.{badDim, badBeam, badNodes, badOrder, badPivots}
 use Rattle.definition.specs.Outcome.{byNumber}
 use Rattle.definition.specs.Seek.{values, malformed, seekCall, seekNumber}
 use Rattle.laws.specs.Truth.{and-both, or-neither}
@@ -49,6 +49,12 @@ six a b c d e f r h =
 pub success : {A : Type 0} (k : ℕ) (kept done : A) → k ≡ 0 → byNumber k kept done ≡ done
 unfolding byNumber
 success k kept done e = ap (λ (j : ℕ). byNumber j kept done) e
+
+-- a refusal says its number: what says 0 is no refusal
+pub said-zero : {A : Type 0} (says : A → ℕ) (k : ℕ) (kept done : A) → says kept ≡ k → says (byNumber k kept done) ≡ 0 → k ≡ 0
+unfolding byNumber
+said-zero says zero kept done e h = refl
+said-zero says (suc k) kept done e h = sym e ∙ h
 
 -- ---- check by check
 
@@ -245,6 +251,40 @@ number-accepted tooShort c e =
       starts = start-below (c .n) (c .start) (p₆ .0);
       ruled = not-false (searchRule (c .n) (c .table)) (or-neither (badLength (c .n) (c .degree) (c .table)) (not (searchRule (c .n) (c .table))) (p₈ .0) .1);
     }
+
+-- its sizes, and that its table passes check 8
+pub record SearchWithin (c : SearchCall) : Type 0 where
+  pub narrow : c .dim ≤ 256
+  pub few : c .n ≤ 65536
+  pub beam-most : c .beam ≤ 256
+  pub sized : length (c .table) ≡ c .n * c .degree
+  pub passes : badSearched (c .n) (c .degree) (c .table) ≡ false
+
+number-within : (tooShort : Bool) (c : SearchCall) → searchNumberAt tooShort c ≡ 0 → SearchWithin c
+unfolding searchNumberAt badVectors badBeam badSearched badLength
+number-within tooShort c e =
+    let p₁ = passed 0 _ _ e in
+    let p₂ = passed 1 _ _ (p₁ .1) in
+    let p₃ = passed 2 _ _ (p₂ .1) in
+    let p₄ = passed 3 _ _ (p₃ .1) in
+    let p₆ = passed 5 _ _ (p₄ .1) in
+    let p₈ = passed 7 _ _ (p₆ .1) in
+    let same = eqb (length (c .table)) (c .n * c .degree) in
+    record {
+      narrow = dim-most (c .dim) (p₁ .0);
+      few = count-few (c .n) (or-neither (badCount (c .n)) (not (eqb (length (c .vectors)) (c .n * c .dim))) (p₂ .0) .0);
+      beam-most = ltb-false 256 (c .beam) (p₄ .0);
+      sized = eqb-true (length (c .table)) (c .n * c .degree) (not-false same (or-neither (not same) (not (searchRule (c .n) (c .table))) (p₈ .0) .0));
+      passes = p₈ .0;
+    }
+
+pub search-within : (c : SearchCall) → searchNumber c ≡ 0 → SearchWithin c
+unfolding searchNumber
+search-within c e = number-within (searchShort c) c e
+
+pub records-within : (c : SearchCall) (records : List Candidate) → recordsNumber c records ≡ 0 → SearchWithin c
+unfolding recordsNumber
+records-within c records e = number-within _ c e
 
 -- by a search, by one with a run of records, and by the program `seek`
 pub search-accepted : (c : SearchCall) → searchNumber c ≡ 0 → SearchAccepted c

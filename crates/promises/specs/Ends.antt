@@ -29,7 +29,7 @@ module _ (g : Ground) where
   one-left s k some = expanded-most (popped s) (popped-keeps g s some k)
 
   -- by whether a state stops
-  stops-cases : (P : Bool → Type 0) (s : State) → (stops beam s ≡ true → P true) → (stops beam s ≡ false → 0 < length (s .frontier) → P false)
+  pub stops-cases : (P : Bool → Type 0) (s : State) → (stops beam s ≡ true → P true) → (stops beam s ≡ false → 0 < length (s .frontier) → P false)
       → P (stops beam s)
   unfolding stops
   stops-cases P s stop on = go (eqb (length (s .frontier)) 0) refl (filled beam s) refl

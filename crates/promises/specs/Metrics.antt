@@ -6,7 +6,7 @@ use native.Mathlib.Omega.{arith}
 use mathlib.Core.Path.{_≡_, refl, ap₂}
 use mathlib.Core.List.{List, [], _∷_, List·Memᴰ as Mem, List·Memᴰ·head as here, List·Memᴰ·tail as there}
 use lib.ListN.{length, drop, length-take}
-use Rattle.definition.specs.Metric.{gap, squared, summed, metric, vector, between}
+use Rattle.definition.specs.Metric.{gap, squared, summed, metric, vector, fromQuery, between}
 use Rattle.laws.specs.Members.{take-mem, drop-mem}
 
 -- bytes
@@ -77,3 +77,9 @@ between-most dim vectors b i j =
     let k = byte-metric .most (vector dim vectors i) (vector dim vectors j) (vector-bytes dim vectors i b) (vector-bytes dim vectors j b) in
     let l = vector-short dim vectors i in
     omega arith
+
+-- ---- from a query to an entry
+
+pub query-most : (dim : ℕ) (vectors query : List ℕ) → Bytes vectors → Bytes query → (i : ℕ) → fromQuery dim vectors query i ≤ 65025 * length query
+unfolding fromQuery
+query-most dim vectors query b q i = byte-metric .most query (vector dim vectors i) q (vector-bytes dim vectors i b)

@@ -1,15 +1,15 @@
 -- Demand 3, second sentence: what the answers of a search tell, and what they exclude. For every accepted search, with a run of records or not, and every
 -- accepted text of `seek` (Accepted says which those are), for every k: as many answers are asked for as min(k, max(beam, 1)).
--- "Answers by distance, then id, cut to k." Each has its own distance and is below n; they stand in strict order.
+-- "Answers by distance, then id, cut to k." Each has its own distance and is below n; they stand in strict order; what is cut off comes after all of them.
 use Prim.Native.Nat.{ℕ, _-_, _≤_, _<_, max, min}
 use native.Mathlib.Omega.{arith}
 use mathlib.Core.Path.{_≡_, refl, sym, subst}
 use mathlib.Core.Logic.{_≢_, _⊎_, inl, inr}
 use mathlib.Core.Bool.{true, _||_}
-use mathlib.Core.List.{List, Pairwise, List·Memᴰ as Mem}
+use mathlib.Core.List.{List, _++_, Pairwise, List·Memᴰ as Mem, List·Memᴰ·append-cases as split}
 use borrow.Author.Tests.{ltb-true, eqb-true}
 use lib.Dec.{ltb, eqb}
-use lib.ListN.{length, getD, take}
+use lib.ListN.{length, getD, take, drop, take-append-drop}
 use Rattle.definition.specs.Lists.{sort}
 use Rattle.definition.specs.Tables.{pad, row, searchRule}
 use Rattle.definition.specs.Metric.{fromQuery}
@@ -20,7 +20,7 @@ use Rattle.definition.specs.Refusals.{SearchCall, searchNumber}
 use Rattle.definition.specs.Outcome.{found, foundIds}
 use Rattle.laws.specs.Truth.{or-either}
 use Rattle.laws.specs.Members.{each-mem, take-mem}
-use Rattle.laws.specs.Sorting.{Ordered, sort-mem, take-ordered, ordered-pairwise}
+use Rattle.laws.specs.Sorting.{Ordered, sort-mem, mem-sort, take-ordered, ordered-across, ordered-pairwise}
 use Rattle.laws.specs.Tables.{row-mem}
 use Rattle.laws.specs.Items.{idsOf}
 use Rattle.promises.specs.Tells.{SearchTells, Excludes}
@@ -29,12 +29,19 @@ use Rattle.promises.specs.search.Ground.{Ground}
 use Rattle.promises.specs.search.Stopped.{listed, tells, excludes}
 use Rattle.promises.specs.Ends.{greedy-done, greedy-keeps}
 
+-- the rows of a call, and the distance from its query to an entry
+abbrev pub rowsOf : SearchCall → ℕ → List ℕ
+rowsOf c = row (c .degree) (c .table)
+
+abbrev pub distanceTo : SearchCall → ℕ → ℕ
+distanceTo c = fromQuery (c .dim) (c .vectors) (c .query)
+
 -- the distance of the last answer; 0 where there is none, which is only so with k = 0
 abbrev pub lastDistance : SearchCall → ℕ
 lastDistance c = getD (found c) (length (found c) - 1) nobody .dist
 
 -- the rows of a table under the search rule
-row-good : (n degree : ℕ) (table : List ℕ) → searchRule n table ≡ true → (i w : ℕ) → i < n → Mem w (row degree table i) → w ≢ pad → w < n
+pub row-good : (n degree : ℕ) (table : List ℕ) → searchRule n table ≡ true → (i w : ℕ) → i < n → Mem w (row degree table i) → w ≢ pad → w < n
 unfolding searchRule
 row-good n degree table rule i w below m no-pad =
     go (or-either (eqb w pad) (ltb w n) (each-mem (λ u. eqb u pad || ltb u n) table rule w (row-mem degree table i m)))
@@ -45,7 +52,7 @@ row-good n degree table rule i w below m no-pad =
 
 module _ (c : SearchCall) (a : SearchAccepted c) where
   -- what the call's search goes by
-  abbrev ground : Ground
+  abbrev pub ground : Ground
   ground =
       record {
         d = fromQuery (c .dim) (c .vectors) (c .query);
@@ -85,11 +92,34 @@ module _ (c : SearchCall) (a : SearchAccepted c) where
       let in-visited = k .holding .seen x (sort-mem listedFirst (end .work) (take-mem (c .k) sorted (subst (λ (l : List Item). Mem x l) found-is m))) in
       (k .seen .own x in-visited, k .seen .below x in-visited)
 
+  pub search-order : Ordered listedFirst (found c)
+  search-order =
+      subst (λ (l : List Item). Ordered listedFirst l) (sym found-is)
+      (take-ordered (c .k) (sort listedFirst (end .work)) (listed ground end (greedy-done ground)))
+
   pub search-ordered : Pairwise (λ (x y : Item). listedFirst x y ≡ true) (found c)
-  search-ordered =
-      ordered-pairwise
-      (subst (λ (l : List Item). Ordered listedFirst l) (sym found-is)
-      (take-ordered (c .k) (sort listedFirst (end .work)) (listed ground end (greedy-done ground))))
+  search-ordered = ordered-pairwise search-order
+
+  -- "cut to k": what the search holds at its end and does not answer is listed after every answer, so that of equals the lower id is answered first
+  pub search-cut : (x y : Item) → Mem x (searched (fromQuery (c .dim) (c .vectors) (c .query)) (row (c .degree) (c .table)) (c .n) (c .beam) (c .start) .work)
+      → ¬ Mem x (found c)
+      → Mem y (found c)
+      → listedFirst y x ≡ true
+  unfolding searched
+  search-cut x y held out answered = go (split (take (c .k) sorted) (subst (λ (l : List Item). Mem x l) (sym parts) (mem-sort listedFirst (end .work) held)))
+    where
+      sorted : List Item
+      sorted = sort listedFirst (end .work)
+
+      parts : take (c .k) sorted ++ drop (c .k) sorted ≡ sorted
+      parts = take-append-drop (c .k) sorted
+
+      go : Mem x (take (c .k) sorted) ⊎ Mem x (drop (c .k) sorted) → listedFirst y x ≡ true
+      go (inl m) = absurd (out (subst (λ (l : List Item). Mem x l) (sym found-is) m))
+      go (inr m) =
+          ordered-across (take (c .k) sorted) (drop (c .k) sorted)
+          (subst (λ (l : List Item). Ordered listedFirst l) (sym parts) (listed ground end (greedy-done ground))) y x
+          (subst (λ (l : List Item). Mem y l) found-is answered) m
 
 -- where k is at least the beam, a beam of 0 read as 1, the beam's number is asked for
 pub search-claim : (c : SearchCall) → searchNumber c ≡ 0 → max (c .beam) 1 ≤ c .k

@@ -62,7 +62,7 @@ module _ (g : Ground) where
       (λ full far. record { seen = seen; waiting = waiting-same vs′ es c new (k .waiting); holding = holding-out vs′ es c new beam (k .holding) full far })
 
   -- by what the test of a skipped word says
-  look-cases : (P : State → Type 0) (s : State) (w : ℕ) → ((w ≡ pad) ⊎ Mem w (visitedIds s) → P s)
+  pub look-cases : (P : State → Type 0) (s : State) (w : ℕ) → ((w ≡ pad) ⊎ Mem w (visitedIds s) → P s)
       → (w ≢ pad → ¬ Mem w (visitedIds s) → P (meet beam (item (d w) w) s))
       → P (look d beam s w)
   unfolding look skipped
@@ -77,13 +77,13 @@ module _ (g : Ground) where
   unfolding meet
   look-expanded s w = look-cases (λ t. t .expanded ≡ s .expanded) s w (λ h. refl) (λ p q. refl)
 
-  look-grows : (s : State) (w i : ℕ) → Mem i (visitedIds s) → Mem i (visitedIds (look d beam s w))
+  pub look-grows : (s : State) (w i : ℕ) → Mem i (visitedIds s) → Mem i (visitedIds (look d beam s w))
   unfolding meet visitedIds
   look-grows s w i m =
       look-cases (λ t. Mem i (visitedIds t)) s w (λ h. m)
       (λ p q. subst (λ (l : List ℕ). Mem i l) (sym (ids-snoc (s .visited) (item (d w) w))) (in-front (w ∷ []) m))
 
-  look-visits : (s : State) (w : ℕ) → w ≢ pad → Mem w (visitedIds (look d beam s w))
+  pub look-visits : (s : State) (w : ℕ) → w ≢ pad → Mem w (visitedIds (look d beam s w))
   unfolding meet visitedIds
   look-visits s w no-pad =
       look-cases (λ t. Mem w (visitedIds t)) s w skip
