@@ -23,6 +23,7 @@ use Rattle.laws.specs.Parts.{Within, within-trans, within-none}
 use Rattle.laws.specs.Words.{Row}
 use Rattle.promises.specs.Kept.{TableKept}
 use Rattle.promises.specs.Rule.{kept-entry}
+use Rattle.promises.specs.Runs.{batches-same}
 use Rattle.promises.specs.build.Batches.{batch-kept}
 use Rattle.batch.specs.Says.{BatchReady, BatchRun}
 
@@ -56,19 +57,6 @@ pub record RunsDone (n dim : ℕ) (vectors : List ℕ) (p : Params) (width start
 -- ---- the definition, one run at a time
 
 module _ (g : Setting) (start extra : ℕ) where
-  -- more steps than there are ids change nothing
-  fuel-free : (f f′ : ℕ) (order seeds wide : List ℕ) → length order ≤ f → length order ≤ f′ → batches g start extra f order seeds wide ≡ batches g start extra f′ order seeds wide
-  unfolding batches batchSize
-  fuel-free zero zero order seeds wide h k = refl
-  fuel-free zero (suc f′) [] seeds wide h k = refl
-  fuel-free zero (suc f′) (u ∷ us) seeds wide h k = absurd (omega arith)
-  fuel-free (suc f) zero [] seeds wide h k = refl
-  fuel-free (suc f) zero (u ∷ us) seeds wide h k = absurd (omega arith)
-  fuel-free (suc f) (suc f′) [] seeds wide h k = refl
-  fuel-free (suc f) (suc f′) (u ∷ us) seeds wide h k =
-      let l = length-drop 256 (u ∷ us) in
-      fuel-free f f′ (drop 256 (u ∷ us)) (drop (256 * extra) seeds) (batch g start extra (take 256 (u ∷ us)) (take (256 * extra) seeds) wide) (omega arith) (omega arith)
-
   one-run : (f : ℕ) (order seeds wide : List ℕ) → 0 < length order → length order ≤ f
       → batches g start extra f order seeds wide ≡ batches g start extra f (drop 256 order) (drop (256 * extra) seeds) (batch g start extra (take 256 order) (take (256 * extra) seeds) wide)
   unfolding batches batchSize
@@ -76,7 +64,7 @@ module _ (g : Setting) (start extra : ℕ) where
   one-run zero (u ∷ us) seeds wide h k = absurd (omega arith)
   one-run (suc f) (u ∷ us) seeds wide h k =
       let l = length-drop 256 (u ∷ us) in
-      fuel-free f (suc f) (drop 256 (u ∷ us)) (drop (256 * extra) seeds) (batch g start extra (take 256 (u ∷ us)) (take (256 * extra) seeds) wide) (omega arith) (omega arith)
+      batches-same g start extra f (suc f) (drop 256 (u ∷ us)) (drop (256 * extra) seeds) (batch g start extra (take 256 (u ∷ us)) (take (256 * extra) seeds) wide) (omega arith) (omega arith)
 
   -- all done
   none-left : (f : ℕ) (order seeds wide : List ℕ) → length order ≡ 0 → batches g start extra f order seeds wide ≡ wide

@@ -1,7 +1,9 @@
 -- Computed examples that pin the definition. An edit of the definition that changes an answer is refused here.
--- Samples: document 01's cases. Texts: `seek`. Builds: whole builds with the values that 000 gives. Cut: pruning's cut at 750. Opened opens every definition.
+-- Samples: document 01's cases. Texts: `seek`. Builds: whole builds with the values that 000 gives. Cut: pruning's cut at 750.
+-- Accepts: a call of each kind that is not refused. Opened opens every definition.
 pub mod Opened
 pub mod Samples
 pub mod Texts
 pub mod Builds
 pub mod Cut
+pub mod Accepts

@@ -9,10 +9,10 @@ use mathlib.Core.List.{List, [], _∷_, _++_, map, Pairwise·nil, Pairwise·cons
 use mathlib.Core.List.{List·Memᴰ·not-nil as not-nil, List·Memᴰ·cases-cons as cases, List·Memᴰ·append-cases as split, List·Memᴰ·eq-of-singleton as only-one}
 use mathlib.Core.List.{Memᴰ·of-map as of-map}
 use borrow.Author.Tests.{not-true}
-use lib.ListN.{length}
+use lib.ListN.{length, take, drop}
 use Rattle.definition.specs.Lists.{run, isIn, distinct}
 use Rattle.laws.specs.Truth.{and-both, both-and, is-not}
-use Rattle.laws.specs.Members.{isIn-none, none-isIn, run-mem, mem-run, length-run}
+use Rattle.laws.specs.Members.{take-mem, isIn-none, none-isIn, run-mem, mem-run, length-run}
 
 -- each unlike all later ones
 pub data Apart {A : Type 0} : List A → Type 0 where
@@ -45,6 +45,16 @@ module _ {A : Type 0} where
 
   pub apart-snoc : {xs : List A} (x : A) → Apart xs → ¬ Mem x xs → Apart (xs ++ (x ∷ []))
   apart-snoc {xs} x a n = apart-append (x ∷ []) a (another not-nil nobody) (λ z m h. n (subst (λ (u : A). Mem u xs) (only-one h) m))
+
+  pub apart-take : (k : ℕ) {xs : List A} → Apart xs → Apart (take k xs)
+  apart-take zero a = nobody
+  apart-take (suc k) nobody = nobody
+  apart-take (suc k) (another {xs = xs} n a) = another (λ m. n (take-mem k xs m)) (apart-take k a)
+
+  pub apart-drop : (k : ℕ) {xs : List A} → Apart xs → Apart (drop k xs)
+  apart-drop zero a = a
+  apart-drop (suc k) nobody = nobody
+  apart-drop (suc k) (another n a) = apart-drop k a
 
 -- images of a list of which no two are alike
 pub apart-map : {A B : Type 0} (f : A → B) {xs : List A} → ((x y : A) → Mem x xs → Mem y xs → f x ≡ f y → x ≡ y) → Apart xs → Apart (map f xs)

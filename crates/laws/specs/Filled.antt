@@ -1,10 +1,12 @@
--- A slice that is filled with one value from the front: after i stores it is that value i times, and then as it was.
+-- A slice that is filled with one value from the front: after i stores it is that value i times, and then as it was. And a cleared front.
 use mathlib.Core.Path.{_≡_, refl, sym, ap, _∙_}
 use mathlib.Core.List.{List, [], _∷_, _++_, append-nil}
 use Prim.Native.Nat.{ℕ, zero, suc, _+_, _≤_, _<_}
 use native.Mathlib.Omega.{arith}
 use native.Mathlib.Numerals.{add-one}
-use lib.ListN.{length, set, drop, replicate, length-set, drop-of-length-le}
+use lib.ListN.{length, set, drop, replicate, length-append, length-replicate, length-set, drop-of-length-le}
+use lib.Seq.{drop-at}
+use Rattle.definition.specs.Lists.{cleared}
 
 module _ {A : Type 0} (v : A) where
   pub record Filled (old s : List A) (i : ℕ) : Type 0 where
@@ -32,3 +34,12 @@ module _ {A : Type 0} (v : A) where
   fill-end old s i h f =
       let q : i ≡ length old = omega (arith, f .within) in
       f .is ∙ rw (drop-of-length-le old {i = i} h, append-nil, q) refl
+
+  -- what was cleared is long enough to be cleared again, and beyond that front it is as it was
+  pub cleared-long : (room : ℕ) (old : List A) → room ≤ length (cleared v room old)
+  unfolding cleared
+  cleared-long room old = omega (arith, length-append (replicate room v) (drop room old), length-replicate room v)
+
+  pub cleared-beyond : (room : ℕ) (old : List A) → drop room (cleared v room old) ≡ drop room old
+  unfolding cleared
+  cleared-beyond room old = drop-at (replicate room v) (drop room old) room (length-replicate room v)

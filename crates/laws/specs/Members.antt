@@ -1,6 +1,6 @@
 -- What is in a list: the tests and functions of the definition's Lists, by membership. `X-mem` tells what is in an X, `mem-X` puts something in it.
 use Prim.Native.Nat.{ℕ, zero, suc, _+_, _*_, _≤_, _<_, zero-le}
-use native.Mathlib.Nat.{eq-or-lt-of-le, zero-mul, suc-mul}
+use native.Mathlib.Nat.{eq-or-lt-of-le, zero-mul, suc-mul, zero-add, suc-add, add-comm}
 use native.Mathlib.Omega.{arith}
 use mathlib.Core.Path.{_≡_, refl, sym, ap, ap₂, _∙_, subst}
 use mathlib.Core.Logic.{_⊎_, inl, inr}
@@ -11,7 +11,7 @@ use mathlib.Core.List.{List·Memᴰ·append-cases as split}
 use borrow.Author.Tests.{eqb-true, eq-eqb, ne-eqb}
 use lib.Dec.{eqb}
 use lib.ListN.{length, take, drop, getD, replicate, length-append, length-drop, take-append-drop}
-use lib.Seq.{take-at, drop-at}
+use lib.Seq.{take-at, drop-at, take-nil, take-take, drop-drop}
 use Rattle.definition.specs.Lists.{each, keep, joined, run, upto, isIn, distinct, groups}
 use Rattle.laws.specs.Truth.{either, branch, and-both, both-and, or-either, either-or, is-false, not-both}
 
@@ -266,6 +266,23 @@ mem-groups (suc k) g xs h {z} m =
     append-elim (λ u. (l : List ℕ) × Mem l (take g xs ∷ groups k g (drop g xs)) × Mem u l) (take g xs) (drop g xs) (λ u i. (take g xs, here refl, i))
     (λ u i. let r = mem-groups k g (drop g xs) (omega arith) i in (r .0, there (r .1), r .2)) z
     (subst (λ (l : List ℕ). Mem z l) (sym (take-append-drop g xs)) m)
+
+-- past a front that is shorter than the cut
+drop-take : (k m : ℕ) (xs : List ℕ) → drop k (take (k + m) xs) ≡ take m (drop k xs)
+drop-take zero m xs = rw zero-add refl
+drop-take (suc k) m [] = ap (drop (suc k)) (take-nil (suc k + m)) ∙ sym (take-nil m)
+drop-take (suc k) m (x ∷ xs) = rw suc-add (drop-take k m xs)
+
+-- the first a groups, and the others
+pub groups-add : (a b g : ℕ) (xs : List ℕ) → groups (a + b) g xs ≡ groups a g (take (a * g) xs) ++ groups b g (drop (a * g) xs)
+unfolding groups
+groups-add zero b g xs = rw (zero-add, zero-mul) refl
+groups-add (suc a) b g xs =
+    let e : suc a * g ≡ g + a * g = suc-mul a g ∙ add-comm (a * g) g in
+    let first : take g (take (suc a * g) xs) ≡ take g xs = take-take g (suc a * g) xs (omega arith) in
+    let front : drop g (take (suc a * g) xs) ≡ take (a * g) (drop g xs) = rw e (drop-take g (a * g) xs) in
+    let back : drop (suc a * g) xs ≡ drop (a * g) (drop g xs) = rw e (sym (drop-drop (a * g) g xs)) in
+    rw (suc-add, first, front, back) (ap (λ (l : List (List ℕ)). take g xs ∷ l) (groups-add a b g (drop g xs)))
 
 -- ---- by places
 

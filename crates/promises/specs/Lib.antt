@@ -1,6 +1,8 @@
 -- What is proved of the definition. Since the code is proved equal to the definition, what is proved here holds of the code.
 --   Outcomes   two outcomes meeting one statement are equal, for every public call
 --   Kept, Rule, Rows        demand 3, first sentence: what rows are; that the test of 8 says so; that every call leaves them so
+--   Alike                   what does not matter to a call: close's beam and extra seeds, an alpha below 1.0
+--   Calls, Building, Runs   a whole build as public calls; that it is these calls; its runs end
 --   Pruned, Rounds, Slack   what pruning leaves; its rounds end; the slack in whole numbers
 --   Tells, Searching, Ends  demand 3, second sentence: what answers tell and exclude; of every accepted search; a greedy search ends
 --   Held                    the same over what a caller holds after a search, with a run of records or not
@@ -30,6 +32,10 @@ pub mod Decimals
 pub mod Printing
 pub mod Seeking
 pub mod Rows
+pub mod Alike
+pub mod Runs
+pub mod Calls
+pub mod Building
 pub mod Drawn
 pub mod build
 pub mod search

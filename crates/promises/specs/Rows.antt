@@ -1,32 +1,35 @@
 -- Demand 3, first sentence: after open, after any batches (refused ones included), after closing and after a whole build, each row has distinct ids below n,
 -- never its own, at most slack of them in a wide table and degree in a closed one, then only padding (Kept).
--- So "8" does not come further on: not from the next batch, not from close, not from a search. And "a batch of no nodes alters no row".
+-- So "8" does not come further on: not from the next batch, not from close, not from a search. And "a batch of no nodes alters no row";
+-- "unaffected rows keep their words".
 use Prim.Native.Nat.{ℕ, zero, suc, _*_, _<_}
 use mathlib.Core.Path.{_≡_, refl, sym, ap, ap₂, _∙_, subst}
 use mathlib.Core.Logic.{_≢_, inl, inr}
 use mathlib.Core.Bool.{false, not, _||_}
-use mathlib.Core.List.{List, []}
+use mathlib.Core.List.{List, [], _∷_, map, List·Memᴰ as Mem, List·Memᴰ·head as here, List·Memᴰ·tail as there, List·Memᴰ·not-nil as not-nil}
+use mathlib.Core.List.{Memᴰ·of-map as of-map}
 use borrow.Author.Tests.{eq-eqb, eqb-false, lt-ltb}
 use lib.Dec.{ltb, eqb}
 use lib.ListN.{length}
-use Rattle.definition.specs.Lists.{each, isIn, keep, groups}
-use Rattle.definition.specs.Tables.{pad, buildRule, searchRule}
+use Rattle.definition.specs.Lists.{each, isIn, keep, groups, cleared}
+use Rattle.definition.specs.Tables.{pad, row, buildRule, searchRule}
 use Rattle.definition.specs.declared.Candidate.{Candidate}
+use Rattle.definition.specs.Floats.{nought}
 use Rattle.definition.specs.Slack.{slack}
-use Rattle.definition.specs.Batch.{Setting, freshRows, naming, isListed, affected, wideRow, mergedRow, merged, batch}
+use Rattle.definition.specs.Batch.{Setting, Listed, freshOf, freshRows, naming, isListed, affected, wideRow, mergedRow, merged, batch}
 use Rattle.definition.specs.Build.{open′, built}
 use Rattle.definition.specs.Refusals.{BatchCall, OpenCall, CloseCall, BuildCall, SearchCall, batchNumber, openNumber, closeNumber, buildNumber, searchNumber}
-use Rattle.definition.specs.Refusals.{recordsNumber, badLength, badTable, badSearched}
+use Rattle.definition.specs.Refusals.{recordsNumber, badLength, badTable, badSearched, buildWords, buildFloats}
 use Rattle.definition.specs.Outcome.{OpenOut, CloseOut, BuildOut, byNumber, settingOf, batchKept, batchDone, batchOut, openKept, openDone, openOut, closeKept}
-use Rattle.definition.specs.Outcome.{closeDone, closeOut, buildKept, builtWide, buildDone, buildOut}
+use Rattle.definition.specs.Outcome.{done, closeDone, closeOut, buildKept, builtWide, buildDone, buildOut}
 use Rattle.laws.specs.Truth.{either-or, neither-or, decide}
-use Rattle.laws.specs.Members.{mem-each}
+use Rattle.laws.specs.Members.{mem-each, cons-elim, keep-none, none-isIn}
 use Rattle.laws.specs.Tables.{tableOf-row}
 use Rattle.promises.specs.Kept.{TableKept, AfterBatches, none-yet, one-more}
 use Rattle.promises.specs.Rule.{kept-rule, kept-entry}
 use Rattle.promises.specs.Accepted.{success, open-accepted, batch-accepted, close-accepted, build-accepted}
 use Rattle.promises.specs.Numbers.{batch-not-8, close-not-8, search-not-8}
-use Rattle.promises.specs.build.Batches.{opened-kept, batch-kept, closed-kept, batches-kept}
+use Rattle.promises.specs.build.Batches.{opened-kept, batch-kept, batch-row, closed-kept, batches-kept}
 
 -- ---- open
 
@@ -146,15 +149,89 @@ no-nodes : (g : Setting) (start extra : ℕ) (seeds wide : List ℕ) → length 
 unfolding batch freshRows merged mergedRow affected isListed naming wideRow isIn keep groups
 no-nodes g start extra seeds wide h = tableOf-row (g .n) (slack (g .degree)) wide h
 
+-- so an accepted one leaves the table
+table-left : (c : BatchCall) → batchNumber c ≡ 0 → c .nodes ≡ [] → batchDone c .wide ≡ c .wide
+unfolding batchDone settingOf
+table-left c e none =
+    let g = settingOf (c .n) (c .dim) (c .vectors) (c .params) in
+    ap (λ (us : List ℕ). batch g (c .start) (c .params .extra) us (c .seeds) (c .wide)) none
+    ∙ no-nodes g (c .start) (c .params .extra) (c .seeds) (c .wide) (batch-accepted c e .wide .size)
+
+-- accepted or refused
 pub empty-batch : (c : BatchCall) → c .nodes ≡ [] → batchOut c .wide ≡ c .wide
-unfolding batchOut byNumber batchKept batchDone settingOf
+unfolding batchOut byNumber batchKept
 empty-batch c none = go (batchNumber c) refl
   where
-    g : Setting
-    g = settingOf (c .n) (c .dim) (c .vectors) (c .params)
-
     go : (j : ℕ) → batchNumber c ≡ j → byNumber j (batchKept c) (batchDone c) .wide ≡ c .wide
-    go zero e =
-        ap (λ (us : List ℕ). batch g (c .start) (c .params .extra) us (c .seeds) (c .wide)) none
-        ∙ no-nodes g (c .start) (c .params .extra) (c .seeds) (c .wide) (batch-accepted c e .wide .size)
+    go zero e = table-left c e none
     go (suc j) e = refl
+
+-- "A batch of no nodes is done and alters no row": all that it leaves. The room is zero, as after every success
+pub batch-empty : (c : BatchCall) → batchNumber c ≡ 0 → c .nodes ≡ []
+    → batchOut c
+    ≡ record { answer = done; wide = c .wide; words = cleared 0 (buildWords (c .n)) (c .words); floats = cleared nought (buildFloats (c .n)) (c .floats) }
+unfolding batchOut batchDone
+batch-empty c e none =
+    success (batchNumber c) (batchKept c) (batchDone c) e
+    ∙ (λ i. record {
+      answer = done;
+      wide = table-left c e none i;
+      words = cleared 0 (buildWords (c .n)) (c .words);
+      floats = cleared nought (buildFloats (c .n)) (c .floats);
+    })
+
+-- ---- "Unaffected rows keep their words"
+
+-- the listed nodes of a call, with their fresh rows
+unfoldable pub listedBy : BatchCall → List Listed
+listedBy c =
+    freshRows (settingOf (c .n) (c .dim) (c .vectors) (c .params)) (c .wide) (c .start) (c .nodes) (groups (length (c .nodes)) (c .params .extra) (c .seeds))
+
+row-left : (c : BatchCall) → batchNumber c ≡ 0 → (i : ℕ) → i < c .n → affected (listedBy c) i ≡ false
+    → row (slack (c .params .degree)) (batchDone c .wide) i ≡ row (slack (c .params .degree)) (c .wide) i
+unfolding batchDone settingOf listedBy mergedRow wideRow
+row-left c e i h free =
+    let a = batch-accepted c e in
+    let g = settingOf (c .n) (c .dim) (c .vectors) (c .params) in
+    batch-row g (c .wide) (a .alpha) (a .low) (a .wide) (c .start) (c .params .extra) (c .nodes) (c .seeds) (a .starts) (a .nodes) (a .seeds) i h
+    ∙ rw free refl
+
+-- accepted or refused
+pub batch-unaffected : (c : BatchCall) (i : ℕ) → i < c .n → affected (listedBy c) i ≡ false
+    → row (slack (c .params .degree)) (batchOut c .wide) i ≡ row (slack (c .params .degree)) (c .wide) i
+unfolding batchOut byNumber batchKept
+batch-unaffected c i h free = go (batchNumber c) refl
+  where
+    go : (j : ℕ) → batchNumber c ≡ j
+        → row (slack (c .params .degree)) (byNumber j (batchKept c) (batchDone c) .wide) i ≡ row (slack (c .params .degree)) (c .wide) i
+    go zero e = row-left c e i h free
+    go (suc j) e = refl
+
+-- in other words: the row of an entry that is not listed and that no fresh row names
+
+fresh-node : (g : Setting) (wide : List ℕ) (start : ℕ) (us : List ℕ) (gs : List (List ℕ)) (l : Listed) → Mem l (freshRows g wide start us gs)
+    → Mem (l .node) us
+unfolding freshRows freshOf
+fresh-node g wide start [] gs l m = absurd (not-nil m)
+fresh-node g wide start (u ∷ us) [] l m = absurd (not-nil m)
+fresh-node g wide start (u ∷ us) (s ∷ gs) l m =
+    cons-elim (λ k. Mem (k .node) (u ∷ us)) (freshOf g wide start u s) (freshRows g wide start us gs) (here refl)
+    (λ k h. there (fresh-node g wide start us gs k h)) l m
+
+not-affected : (ls : List Listed) (i : ℕ) → ((l : Listed) → Mem l ls → (l .node ≢ i) × ¬ Mem i (l .fresh)) → affected ls i ≡ false
+unfolding affected isListed naming
+not-affected ls i f =
+    neither-or (isIn i (map (λ l. l .node) ls)) (not (eqb (length (map (λ l. l .node) (keep (λ l. isIn i (l .fresh)) ls))) 0))
+    (none-isIn i (map (λ l. l .node) ls) (λ m. let r = of-map (λ (l : Listed). l .node) ls m in f (r .0) (r .1) .0 (r .2)))
+    (rw (keep-none (λ (l : Listed). isIn i (l .fresh)) ls (λ l m. none-isIn i (l .fresh) (f l m .1))) refl)
+
+listed-node : (c : BatchCall) (l : Listed) → Mem l (listedBy c) → Mem (l .node) (c .nodes)
+unfolding listedBy
+listed-node c =
+    fresh-node (settingOf (c .n) (c .dim) (c .vectors) (c .params)) (c .wide) (c .start) (c .nodes) (groups (length (c .nodes)) (c .params .extra) (c .seeds))
+
+pub batch-unnamed : (c : BatchCall) (i : ℕ) → i < c .n → ¬ Mem i (c .nodes) → ((l : Listed) → Mem l (listedBy c) → ¬ Mem i (l .fresh))
+    → row (slack (c .params .degree)) (batchOut c .wide) i ≡ row (slack (c .params .degree)) (c .wide) i
+batch-unnamed c i h unlisted unnamed =
+    batch-unaffected c i h
+    (not-affected (listedBy c) i (λ l m. (λ e. unlisted (subst (λ (u : ℕ). Mem u (c .nodes)) e (listed-node c l m)), unnamed l m)))

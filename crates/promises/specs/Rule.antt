@@ -29,7 +29,7 @@ pub padded-kept : (n width own : ℕ) (xs : List ℕ) → Fit n own xs → lengt
 unfolding padded
 padded-kept n width own xs f h = record { ids = xs; split = refl; most = h; below = f .below; notOwn = f .notOwn; once = apart-nodup (f .once) }
 
-kept-length : (n width own : ℕ) (words : List ℕ) → RowKept n width own words → length words ≡ width
+pub kept-length : (n width own : ℕ) (words : List ℕ) → RowKept n width own words → length words ≡ width
 unfolding padded
 kept-length n width own words k = ap (λ (l : List ℕ). length l) (k .split) ∙ length-padded width (k .ids) (k .most)
 

@@ -19,8 +19,9 @@ use Rattle.definition.specs.Build.{open′, closedIds, close, batchSize, batche
 use Rattle.laws.specs.Truth.{either, branch}
 use Rattle.laws.specs.Members.{keep-mem, joined-mem, groups-mem, take-mem, drop-mem, cons-elim, append-elim}
 use Rattle.laws.specs.Rising.{rising-mem, rising-apart}
+use Rattle.laws.specs.Tables.{row-tableOf}
 use Rattle.promises.specs.Kept.{RowKept, TableKept}
-use Rattle.promises.specs.Rule.{Fit, padded-kept, kept-fit, kept-few, kept-table, kept-words}
+use Rattle.promises.specs.Rule.{Fit, padded-kept, kept-length, kept-fit, kept-few, kept-table, kept-words}
 use Rattle.promises.specs.Pruned.{pruned-ids}
 use Rattle.promises.specs.Ends.{visited-below}
 
@@ -162,21 +163,35 @@ module _ (g : Setting) (wide : List ℕ) (ok : above (g .alpha) four ≡ false) 
       branch (λ (l : List ℕ). FitsIn (slack (g .degree)) i l) (leb (length xs) (slack (g .degree))) (λ e. (f, leb-true (length xs) (slack (g .degree)) e))
       (λ e. pruned-fits i (slack (g .degree)) xs (degree-slack (g .degree)) (f .below))
 
-  merged-kept : (ls : List Listed) → ((l : Listed) → Mem l ls → ListedFit (g .n) l) → TableKept (g .n) (slack (g .degree)) (merged g wide ls)
-  unfolding merged mergedRow wideRow
-  merged-kept ls f =
-      kept-table (g .n) (slack (g .degree)) (mergedRow g wide ls)
-      (λ i h.
+  row-kept : (ls : List Listed) → ((l : Listed) → Mem l ls → ListedFit (g .n) l) → (i : ℕ) → i < g .n
+      → RowKept (g .n) (slack (g .degree)) i (mergedRow g wide ls i)
+  unfolding mergedRow wideRow
+  row-kept ls f i h =
       let r = fitted-fits i (mergedIds g wide ls i) (merged-fit ls f i) in
       either (λ (l : List ℕ). RowKept (g .n) (slack (g .degree)) i l) (affected ls i)
-      (padded-kept (g .n) (slack (g .degree)) i (fitted g i (mergedIds g wide ls i)) (r .0) (r .1)) (kept .rows i h))
+      (padded-kept (g .n) (slack (g .degree)) i (fitted g i (mergedIds g wide ls i)) (r .0) (r .1)) (kept .rows i h)
 
-  pub batch-kept : (start extra : ℕ) (nodes seeds : List ℕ) → start < g .n → ((u : ℕ) → Mem u nodes → u < g .n) → ((s : ℕ) → Mem s seeds → s < g .n)
-      → TableKept (g .n) (slack (g .degree)) (batch g start extra nodes seeds wide)
-  unfolding batch
-  batch-kept start extra nodes seeds h a b =
-      merged-kept (freshRows g wide start nodes (groups (length nodes) extra seeds))
-      (fresh-all start h nodes (groups (length nodes) extra seeds) a (λ l s m i. b s (groups-mem (length nodes) extra seeds m i)))
+  -- the nodes of a batch and their groups of seeds
+  module _ (start extra : ℕ) (nodes seeds : List ℕ) (h : start < g .n) (a : (u : ℕ) → Mem u nodes → u < g .n) (b : (s : ℕ) → Mem s seeds → s < g .n) where
+    abbrev made : List Listed
+    made = freshRows g wide start nodes (groups (length nodes) extra seeds)
+
+    rows-kept : (i : ℕ) → i < g .n → RowKept (g .n) (slack (g .degree)) i (mergedRow g wide made i)
+    rows-kept =
+        row-kept made (fresh-all start h nodes (groups (length nodes) extra seeds) a (λ l s m i. b s (groups-mem (length nodes) extra seeds m i)))
+
+    pub batch-kept : TableKept (g .n) (slack (g .degree)) (batch g start extra nodes seeds wide)
+    unfolding batch merged
+    batch-kept = kept-table (g .n) (slack (g .degree)) (mergedRow g wide made) rows-kept
+
+    -- its row i is the merged one
+    pub batch-row : (i : ℕ) → i < g .n
+        → row (slack (g .degree)) (batch g start extra nodes seeds wide) i
+        ≡ mergedRow g wide (freshRows g wide start nodes (groups (length nodes) extra seeds)) i
+    unfolding batch merged
+    batch-row =
+        row-tableOf (g .n) (slack (g .degree)) (mergedRow g wide made)
+        (λ j k. kept-length (g .n) (slack (g .degree)) j (mergedRow g wide made j) (rows-kept j k))
 
 -- ---- the runs of a whole build
 
