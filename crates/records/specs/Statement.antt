@@ -1,4 +1,4 @@
--- The public statement, from a search with the records beside it and the copy of its answers.
+-- The public statement, from the number of a search with the records beside it, what an accepted one leaves, and the copy of its answers.
 use mathlib.Core.Path.{_≡_, refl, sym, ap, ap₂, _∙_, subst}
 use mathlib.Core.List.{List, [], _∷_, _++_, map}
 use Prim.Native.Nat.{ℕ, zero, suc, _+_, _≤_, _<_}
@@ -10,11 +10,14 @@ use Rattle.definition.specs.declared.Candidate.{Candidate}
 use Rattle.definition.specs.Lists.{over}
 use Rattle.definition.specs.Metric.{whole}
 use Rattle.definition.specs.Beam.{Item, item}
-use Rattle.definition.specs.Refusals.{SearchCall, short, recordsNumber}
-use Rattle.definition.specs.Outcome.{answer, refused, byNumber, found, foundIds, foundDists, foundRecords, searchDone, SearchOut, RecordsOut, recordsKept, recordsDone, recordsOut, RecordsMeets}
+use Rattle.definition.specs.declared.Answer.{Answer}
+use Rattle.definition.specs.Refusals.{SearchCall, mostAnswers, recordsNumber}
+use Rattle.definition.specs.Outcome.{answer, refused, found, foundIds, foundDists, foundRecords, searchDone, SearchOut, RecordsOut, recordsKept, recordsDone, recordsOut, RecordsMeets}
+use Rattle.room.specs.Outcomes.{by-refusal, by-success}
+use Rattle.numbers.specs.SearchNumber.{with-records}
 use Rattle.beam.specs.ListLaws.{map-at}
 use Rattle.search.specs.Reading.{front-at}
-use Rattle.search.specs.Statement.{outOf, refusedBy, besideNumber, besideOut, SearchedBeside}
+use Rattle.search.specs.Statement.{outOf, Searched, NumberedBeside, beside-accepted}
 use Rattle.records.specs.Copied.{candidate, copied, copied-is}
 
 -- ---- the copy of answers that stand in front of two lists
@@ -28,48 +31,49 @@ copied-found items ids dists rs fits =
     (λ i d h. ap₂ candidate (front-at (λ a. a .id) items ids i 0 (item 0 0) h) (front-at (λ a. whole (a .dist)) items dists i _ (item 0 0) h) ∙ sym (map-at record-of (item 0 0) d items i h))
     ∙ ap (λ (l : List Candidate). l ++ drop (length items) rs) (take-all (length items) (map record-of items) (omega (arith, length-map items record-of)))
 
--- ---- by the number: a refusal copies nothing
+-- ---- by the number
 abbrev byCount : SearchOut → List Candidate → List Candidate
 byCount o rs = copied (o .ids) (o .dists) (o .answer .count) rs
 
 module _ (c : SearchCall) (rs : List Candidate) where
+  meets : (o : RecordsOut) → o ≡ recordsOut c rs → RecordsMeets c rs o
+  meets o q = record { plain-is = ap (λ (x : RecordsOut). x .plain) q; records-are = ap (λ (x : RecordsOut). x .records) q }
+
   run-done : length (found c) ≤ length rs → byCount (searchDone c) rs ≡ recordsDone c rs .records
   unfolding searchDone recordsDone over foundIds foundDists foundRecords answer
   run-done fits = copied-found (found c) (drop (length (foundIds c)) (c .ids)) (drop (length (foundDists c)) (c .dists)) rs fits ∙ ap (λ (m : ℕ). foundRecords c ++ drop m rs) (sym (length-map (found c) record-of))
 
-  run-by : (k : ℕ) → byNumber k (refusedBy k c) (searchDone c) .answer .count ≤ length rs → byCount (byNumber k (refusedBy k c) (searchDone c)) rs ≡ byNumber k (recordsKept c rs) (recordsDone c rs) .records
-  unfolding byNumber refusedBy recordsKept searchDone refused answer
-  run-by zero fits = run-done fits
-  run-by (suc k) fits = refl
-
-  plain-by : (k : ℕ) (x y : RecordsOut) → byNumber k (x .plain) (y .plain) ≡ byNumber k x y .plain
-  unfolding byNumber
-  plain-by zero x y = refl
-  plain-by (suc k) x y = refl
-
   -- the answers stand in both outputs
-  in-outputs : (k : ℕ) (o : SearchOut) → o ≡ byNumber k (refusedBy k c) (searchDone c) → (o .answer .count ≤ length (o .ids)) × (o .answer .count ≤ length (o .dists))
-  unfolding byNumber refusedBy searchDone refused answer over foundIds foundDists
-  in-outputs zero o e = (
+  in-outputs : (o : SearchOut) → o ≡ searchDone c → (o .answer .count ≤ length (o .ids)) × (o .answer .count ≤ length (o .dists))
+  unfolding searchDone answer over foundIds foundDists
+  in-outputs o e = (
     subst (λ (x : SearchOut). x .answer .count ≤ length (x .ids)) (sym e) (omega (arith, length-append (foundIds c) (drop (length (foundIds c)) (c .ids)), length-map (found c) (λ a. a .id))),
     subst (λ (x : SearchOut). x .answer .count ≤ length (x .dists)) (sym e) (omega (arith, length-append (foundDists c) (drop (length (foundDists c)) (c .dists)), length-map (found c) (λ a. whole (a .dist)))),
   )
-  in-outputs (suc k) o e = (omega (arith, ap (λ (x : SearchOut). x .answer .count) e), omega (arith, ap (λ (x : SearchOut). x .answer .count) e))
 
-  module _ (o : SearchOut) (s : SearchedBeside c (length rs) o) where
-    by-number : o ≡ byNumber (recordsNumber c rs) (refusedBy (recordsNumber c rs) c) (searchDone c)
-    unfolding besideOut besideNumber recordsNumber short
-    by-number = s .is
+  module _ (r : ℕ) (m : NumberedBeside c (length rs) r) where
+    number-is : r ≡ recordsNumber c rs
+    number-is =
+        with-records (c .n) (c .dim) (c .vectors) (c .degree) (c .beam) (c .k) (c .start) (c .table) (c .query) (c .words) (c .floats) (c .ids) (c .dists) r rs m
 
-    -- the copy may be made
-    pub in-all : (o .answer .count ≤ length rs) × ((o .answer .count ≤ length (o .ids)) × (o .answer .count ≤ length (o .dists)))
-    in-all = (s .in-run, in-outputs (recordsNumber c rs) o by-number)
+    -- a refusal: everything is as it was
+    pub records-refused : (r ≡ 0 → ⊥) → (a : Answer) → a ≡ refused r → RecordsMeets c rs (record { plain = outOf a (c .words) (c .floats) (c .ids) (c .dists); records = rs })
+    unfolding recordsOut recordsKept
+    records-refused h a e =
+        meets _
+        (ap (λ (x : Answer). record { plain = outOf x (c .words) (c .floats) (c .ids) (c .dists); records = rs }) (e ∙ ap refused number-is)
+        ∙ sym (by-refusal (recordsKept c rs) (recordsDone c rs) (recordsNumber c rs) (λ z. h (number-is ∙ z))))
 
-    -- and gives what is stated
-    pub meets : (run : List Candidate) → run ≡ byCount o rs → RecordsMeets c rs (record { plain = o; records = run })
-    unfolding recordsOut recordsKept recordsDone refusedBy
-    meets run e =
-        record {
-          plain-is = by-number ∙ plain-by (recordsNumber c rs) (recordsKept c rs) (recordsDone c rs);
-          records-are = e ∙ ap (λ (x : SearchOut). byCount x rs) by-number ∙ run-by (recordsNumber c rs) (subst (λ (x : SearchOut). x .answer .count ≤ length rs) by-number (s .in-run));
-        }
+    module _ (z : r ≡ 0) (o : SearchOut) (s : Searched c o) where
+      -- the copy may be made
+      pub in-all : (o .answer .count ≤ length rs) × ((o .answer .count ≤ length (o .ids)) × (o .answer .count ≤ length (o .dists)))
+      in-all = (omega (arith, s .few, beside-accepted c (length rs) r m z .1), in-outputs o (s .is))
+
+      -- and gives what is stated
+      pub records-done : (run : List Candidate) → run ≡ byCount o rs → RecordsMeets c rs (record { plain = o; records = run })
+      unfolding recordsOut recordsDone searchDone answer
+      records-done run e =
+          let fits : length (found c) ≤ length rs = subst (λ (x : SearchOut). x .answer .count ≤ length rs) (s .is) (in-all .0) in
+          meets _
+          (ap₂ (λ (x : SearchOut) (l : List Candidate). record { plain = x; records = l }) (s .is) (e ∙ ap (λ (x : SearchOut). byCount x rs) (s .is) ∙ run-done fits)
+          ∙ sym (by-success (recordsKept c rs) (recordsDone c rs) (recordsNumber c rs) (sym number-is ∙ z)))

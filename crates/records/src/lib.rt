@@ -24,7 +24,8 @@ fn copy_run(records: &mut [Candidate], ids: &[u32], dists: &[f32], count: usize)
     }
 }
 
-// A search, and its answers once more as records, best first. A refusal has no answers, so nothing is copied.
+// A search, and its answers once more as records, best first. Its number is known from lengths and from what is only read: nothing is lent for writing
+// before it is 0.
 pub fn search_records(
     n: usize,
     dim: usize,
@@ -46,7 +47,26 @@ pub fn search_records(
         (now (records .entry))
         (record { plain = record { answer = r; words = now (words .exit); floats = now (floats .exit); ids = now (ids .exit); dists = now (dists .exit) }; records = now (records .exit) }) ⌝ }
 {
-    let a = search::search_beside(
+    let number = numbers::search_number(
+        n,
+        dim,
+        vectors,
+        degree,
+        beam,
+        k,
+        start,
+        table,
+        query,
+        words.len(),
+        floats.len(),
+        ids.len(),
+        dists.len(),
+        records.len(),
+    );
+    if number != 0 {
+        return answer::refused(number);
+    }
+    let a = search::search_accepted(
         n,
         dim,
         vectors,
@@ -60,7 +80,6 @@ pub fn search_records(
         floats,
         ids,
         dists,
-        records.len(),
     );
     let count = a.count;
     copy_run(records, ids, dists, count);

@@ -11,7 +11,7 @@ ghost use Rattle.definition.specs.Refusals.{searchWords, searchFloats};
 ghost use Rattle.definition.specs.Outcome.{SearchMeets};
 ghost use Rattle.numbers.specs.SearchNumber.{callOf, Accepted};
 ghost use Rattle.search.specs.Answering.{Listed, Wiped};
-ghost use Rattle.search.specs.Statement.{outOf, Searched, SearchedBeside};
+ghost use Rattle.search.specs.Statement.{outOf, Searched};
 
 // At least 1.
 fn raised(beam: usize) -> usize
@@ -96,65 +96,8 @@ pub fn search_accepted(
     answer::found(count)
 }
 
-// A search with `run` records beside its two outputs, which it does not write: their number counts in check 10.
-pub fn search_beside(
-    n: usize,
-    dim: usize,
-    vectors: &[u8],
-    degree: usize,
-    beam: usize,
-    k: usize,
-    start: u32,
-    table: &[u32],
-    query: &[u8],
-    words: &mut [u32],
-    floats: &mut [f32],
-    ids: &mut [u32],
-    dists: &mut [f32],
-    run: usize,
-) -> Answer
-    ensures { λ r. ⌜ SearchedBeside
-        (callOf n dim (now (vectors .entry)) degree beam k start (now (table .entry)) (now (query .entry)) (now (words .entry)) (now (floats .entry)) (now (ids .entry)) (now (dists .entry)))
-        run
-        (outOf r (now (words .exit)) (now (floats .exit)) (now (ids .exit)) (now (dists .exit))) ⌝ }
-{
-    let number = numbers::search_number(
-        n,
-        dim,
-        vectors,
-        degree,
-        beam,
-        k,
-        start,
-        table,
-        query,
-        words.len(),
-        floats.len(),
-        ids.len(),
-        dists.len(),
-        run,
-    );
-    if number != 0 {
-        return answer::refused(number);
-    }
-    search_accepted(
-        n,
-        dim,
-        vectors,
-        degree,
-        beam,
-        k,
-        start,
-        table,
-        query,
-        words,
-        floats,
-        ids,
-        dists,
-    )
-}
-
-// The answers of a search in `ids` and `dists`, best first, and how many they are; or the number of the refusal.
+// The answers of a search in `ids` and `dists`, best first, and how many they are; or the number of the refusal, which is known from lengths and from what is
+// only read: nothing is lent for writing before it is 0.
 pub fn search(
     n: usize,
     dim: usize,
@@ -174,7 +117,26 @@ pub fn search(
         (record { n = n; dim = dim; vectors = now (vectors .entry); degree = degree; beam = beam; k = k; start = start; table = now (table .entry); query = now (query .entry); words = now (words .entry); floats = now (floats .entry); ids = now (ids .entry); dists = now (dists .entry) })
         (record { answer = r; words = now (words .exit); floats = now (floats .exit); ids = now (ids .exit); dists = now (dists .exit) }) ⌝ }
 {
-    search_beside(
+    let number = numbers::search_number(
+        n,
+        dim,
+        vectors,
+        degree,
+        beam,
+        k,
+        start,
+        table,
+        query,
+        words.len(),
+        floats.len(),
+        ids.len(),
+        dists.len(),
+        k,
+    );
+    if number != 0 {
+        return answer::refused(number);
+    }
+    search_accepted(
         n,
         dim,
         vectors,
@@ -188,6 +150,5 @@ pub fn search(
         floats,
         ids,
         dists,
-        k,
     )
 }

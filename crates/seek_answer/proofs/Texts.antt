@@ -4,14 +4,14 @@ use mathlib.Core.Bool.{Bool, true, false, not, cond}
 use mathlib.Core.List.{List}
 use Prim.Native.Nat.{ℕ, _-_, _≤_, _<_}
 use native.Mathlib.Omega.{arith}
-use borrow.Author.Tests.{lt-ltb, le-ltb}
+use borrow.Author.Tests.{le-ltb}
 use lib.ListN.{length, take, drop}
 use Rattle.definition.specs.Refusals.{_when_else_, searchNumber}
 use Rattle.definition.specs.Outcome.{found, byNumber}
 use Rattle.definition.specs.Seek.{wellFormed, seekCall, printRefused, printFound, seek, seekNumber, malformed, mostInput, values}
 use Rattle.seek_text.specs.Text.{Values, Taken}
 use Rattle.seek_print.specs.Printed.{Put}
-use Rattle.seek_answer.specs.Answering.{Ready, answerOf, valuesOf}
+use Rattle.seek_answer.specs.Answering.{Ready, answerOf, valuesOf, seek-long}
 
 pub values-bad : (vs vectors query out₀ out : List ℕ) (r : Bool) (e : ℕ) → Taken vs vectors query r → r ≡ false → Put (printRefused 13) out₀ 0 out e → Put (valuesOf vs) out₀ 0 out e
 unfolding valuesOf
@@ -26,8 +26,8 @@ ready-of vs vectors query r t e =
     record { well = sym (t .says) ∙ e; limits = t .limits e; all = t .all e; vectors-are = t .vectors-are e; query-are = t .query-are e }
 
 pub text-long : (text out₀ out : List ℕ) (e : ℕ) → 65536 < length text → Put (printRefused 13) out₀ 0 out e → Put (seek text) out₀ 0 out e
-unfolding seek seekNumber malformed mostInput _when_else_ byNumber
-text-long text out₀ out e h g = rw (lt-ltb 65536 (length text) h) g
+unfolding mostInput
+text-long text out₀ out e h g = rw (seek-long text h) g
 
 by-13 : (b : Bool) (x : ℕ) (m : List ℕ) → byNumber (13 when not b else x) (printRefused (13 when not b else x)) m ≡ cond b (byNumber x (printRefused x) m) (printRefused 13)
 unfolding _when_else_ byNumber

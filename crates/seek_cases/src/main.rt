@@ -23,7 +23,8 @@ fn answer_each(texts: &[u8]) {
     let mut at = 0;
     while at < texts.len() {
         let end = text_end(texts, at);
-        seek_answer::print_answer(&texts[at..end]);
+        let count = end - at;
+        seek_input::print_answer(&texts[at..end], count);
         at = end + 1;
     }
 }

@@ -9,7 +9,7 @@ use Rattle.seek_cases.proofs.answer_each.Statement.{statement}
 use Rattle.seek_cases.proofs.answer_each.Tie as tie
 use Rattle.seek_cases.proofs.answer_each.Reads as reads
 use Rattle.seek_cases.proofs.answer_each.Lts as lts
-use Rattle.seek_answer.proofs.print_answer.Reads as print-answer-reads
+use Rattle.seek_input.proofs.print_answer.Reads as print-answer-reads
 use Rattle.seek_cases.proofs.text_end.Reads as text-end-reads
 
 abbrev Inv-loop : tie.InvT-loop
@@ -23,6 +23,9 @@ loop-holds c = tt
 
 text-end-requires : tie.Need-text-end-requires Inv-loop μ-loop
 text-end-requires c κs = search needs
+
+sub-count : tie.Need-sub-count Inv-loop μ-loop
+sub-count c = search needs
 
 sub-print-answer : tie.Need-sub-print-answer Inv-loop μ-loop
 sub-print-answer c = search needs
@@ -56,6 +59,7 @@ answer-each-spec =
     μ-loop
     loop-holds
     text-end-requires
+    sub-count
     sub-print-answer
     part-print-answer-start
     part-print-answer-end

@@ -1,17 +1,22 @@
--- `print_answer`: the arrays are room enough, and what is put fits in `out`.
-use mathlib.Core.Path.{_≡_, refl, sym, ap, _∙_, subst}
-use mathlib.Core.Logic.{⊎-elim}
-use Prim.Native.Nat.{ℕ, suc, _+_, _-_, _*_, _≤_, _<_}
-use native.Mathlib.Omega.{arith}
-use lib.ListN.{length, getD, set, take, drop, length-set}
+-- `print_answer`: the arrays are room enough, what is put fits in `out`, and it is handed over whole.
 use borrow.Author.Needs.{needs}
 use Rattle.seek_print.specs.Printed.{put-fits, put-length}
-use Rattle.seek_answer.proofs.print_answer.Statement.{statement}
-use Rattle.seek_answer.proofs.print_answer.Tie as tie
-use Rattle.seek_answer.proofs.print_answer.Reads as reads
-use Rattle.seek_answer.proofs.print_answer.Lts as lts
-use Rattle.io.proofs.write_all.Reads as write-all-reads
+use Rattle.seek_input.specs.Streams.{put-handed}
+use Rattle.seek_input.proofs.print_answer.Statement.{statement}
+use Rattle.seek_input.proofs.print_answer.Tie as tie
+use Rattle.seek_input.proofs.print_answer.Reads as reads
+use Rattle.seek_input.proofs.print_answer.Lts as lts
 use Rattle.seek_answer.proofs.answer_text.Reads as answer-text-reads
+use Rattle.seek_input.proofs.write_answer.Reads as write-answer-reads
+
+sub-answer-text : tie.Need-sub-answer-text
+sub-answer-text c = search needs
+
+part-answer-text-start : tie.Need-part-answer-text-start
+part-answer-text-start c = search needs
+
+part-answer-text-end : tie.Need-part-answer-text-end
+part-answer-text-end c = search needs
 
 slice-aggregate-answer-text : tie.Need-slice-aggregate-answer-text
 slice-aggregate-answer-text c = search needs
@@ -43,11 +48,11 @@ answer-text-requires c κs = search needs
 array-share-prefix-out : tie.Need-array-share-prefix-out
 array-share-prefix-out c = put-fits _ _ _ _ (c .before .before .before .before .before .before .before .before .answer-text .ensures)
 
-slice-aggregate-write-all : tie.Need-slice-aggregate-write-all
-slice-aggregate-write-all c = put-length _ _ _ _ (c .before .before .before .before .before .before .before .before .before .answer-text .ensures)
+slice-aggregate-write-answer : tie.Need-slice-aggregate-write-answer
+slice-aggregate-write-answer c = put-length _ _ _ _ (c .before .before .before .before .before .before .before .before .before .answer-text .ensures)
 
-write-all-requires : tie.Need-write-all-requires
-write-all-requires c κs = search needs
+write-answer-requires : tie.Need-write-answer-requires
+write-answer-requires c κs = put-handed (c .before .before .before .before .before .before .before .before .before .before .before .before .before .before .before .before .before .before .before .before .args .text .now) _ _ (c .before .before .before .before .before .before .before .before .before .before .before .before .before .before .before .before .before .before .before .before .args .count) _ (c .before .before .before .before .before .before .before .before .before .answer-text .ensures)
 
 returns : tie.Need-returns
 returns c = search needs
@@ -56,6 +61,9 @@ pub print-answer-spec : {M : Type 1} → statement M
 print-answer-spec =
     tie.close
     (tie.spec
+    sub-answer-text
+    part-answer-text-start
+    part-answer-text-end
     slice-aggregate-answer-text
     slice-aggregate-answer-text-2
     slice-aggregate-answer-text-3
@@ -66,6 +74,6 @@ print-answer-spec =
     slice-aggregate-answer-text-8
     answer-text-requires
     array-share-prefix-out
-    slice-aggregate-write-all
-    write-all-requires
+    slice-aggregate-write-answer
+    write-answer-requires
     returns)
