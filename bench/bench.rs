@@ -198,8 +198,8 @@ fn distances(i: &Input, repeats: usize) {
     line("one distance of 64 bytes", ours * each, theirs * each, "ns");
 }
 
-/// The closed table of both, once it is known to be one.
-fn builds(i: &Input, repeats: usize) -> Vec<u32> {
+/// The wide and the closed table of both, once they are known to be one.
+fn builds(i: &Input, repeats: usize) -> (Vec<u32>, Vec<u32>) {
     let (n, width) = (i.n, ours::slack(PARAMS.degree));
     let call = ours::Build { n, dim: DIM, vectors: &i.vectors, params: PARAMS, start: i.start, order: &i.order, seeds: &i.seeds };
     let theirs = || probe::Build {
@@ -226,7 +226,25 @@ fn builds(i: &Input, repeats: usize) -> Vec<u32> {
         probe::build(theirs(), Counted);
         println!("{:<28} 000 {}", "  distances of a build", probe::distances());
     }
-    closed
+    (wide, closed)
+}
+
+/// The test of the build rule on a wide table: an empty batch with a word of room too little, which is refused by 10, so after the whole of the checks
+/// before it. First the table as it is opened, whose rows are full, then the one that was built.
+fn rule(i: &Input, built: &mut [u32], repeats: usize) {
+    let (n, width) = (i.n, ours::slack(PARAMS.degree));
+    let mut g = Generator(1);
+    let mut opened = flat(&(0..n).map(|k| g.row(k, n, width)).collect::<Vec<_>>(), width);
+    let call = ours::Build { n, dim: DIM, vectors: &i.vectors, params: PARAMS, start: i.start, order: &[], seeds: &[] };
+    let (mut words, mut floats) = (vec![0; 6 * n + 32_767], vec![0.0; 4 * n + 1_024]);
+    for (what, wide) in [("the build rule, full rows", &mut opened[..]), ("the build rule, rows built", built)] {
+        let bytes = std::mem::size_of_val(wide) as f64;
+        assert_eq!(ours::batch(call, wide, &mut words, &mut floats).number, 10);
+        let time = best(repeats.max(20), || {
+            black_box(ours::batch(call, black_box(wide), &mut words, &mut floats));
+        });
+        println!("{what:<28} ours {:>12.3} us   {:.1} bytes a ns", time * 1e6, bytes / time / 1e9);
+    }
 }
 
 type Found = fn(ours::Search, &mut [u32], &mut [f32], &mut [u32], &mut [f32]) -> ours::Answer;
@@ -291,6 +309,7 @@ fn main() {
     println!("n {n}, dim {DIM}, degree 64, build beam 128, alpha 1.2, extra seeds 1; search beam {BEAM}, k {K}; {queries} queries, best of {repeats}");
     let i = input(n, queries);
     distances(&i, repeats);
-    let table = builds(&i, repeats.min(if n > 2_000 { 2 } else { 5 }));
-    searches(&i, &table, repeats);
+    let (mut wide, closed) = builds(&i, repeats.min(if n > 2_000 { 2 } else { 5 }));
+    rule(&i, &mut wide, repeats);
+    searches(&i, &closed, repeats);
 }

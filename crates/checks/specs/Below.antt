@@ -1,14 +1,15 @@
 -- Every id is below n.
-use mathlib.Core.Path.{_≡_, refl}
+use mathlib.Core.Path.{_≡_}
 use mathlib.Core.Bool.{Bool, true}
 use mathlib.Core.List.{List, [], _∷_}
 use Prim.Native.Nat.{ℕ, zero, suc, _≤_, _<_}
 use native.Mathlib.Omega.{arith}
-use borrow.Author.Tests.{ltb-true, lt-ltb}
+use borrow.Author.Tests.{ltb-true}
 use lib.Dec.{ltb}
 use lib.ListN.{length, getD}
 use Rattle.definition.specs.Lists.{each}
 use Rattle.laws.specs.Truth.{and-both}
+use Rattle.repeats.specs.Bits.{Small}
 
 unfoldable pub allBelow : ℕ → List ℕ → Bool
 allBelow n ids = each (λ u. ltb u n) ids
@@ -19,10 +20,14 @@ below-at n [] i h l = absurd (omega arith)
 below-at n (x ∷ xs) zero h l = ltb-true x n (and-both (ltb x n) _ h .0)
 below-at n (x ∷ xs) (suc i) h l = below-at n xs i (and-both (ltb x n) _ h .1) (omega arith)
 
-pub below-more : (n m : ℕ) (ids : List ℕ) → n ≤ m → allBelow n ids ≡ true → allBelow m ids ≡ true
+-- so there is a bit for each, and for what is read past the end
+pub below-small : (n : ℕ) (ids : List ℕ) → n ≤ 65536 → allBelow n ids ≡ true → Small ids
 unfolding allBelow each
-below-more n m [] h e = refl
-below-more n m (x ∷ xs) h e =
+below-small n [] h e = record { at = λ i. omega arith }
+below-small n (x ∷ xs) h e =
     let s = and-both (ltb x n) _ e in
-    let l = ltb-true x n (s .0) in
-    rw (lt-ltb x m (omega arith)) (below-more n m xs h (s .1))
+    record { at = λ i. go (ltb-true x n (s .0)) (below-small n xs h (s .1)) i }
+  where
+    go : x < n → Small xs → (i : ℕ) → getD (x ∷ xs) i 0 < 65536
+    go l r zero = omega arith
+    go l r (suc i) = r .at i

@@ -6,10 +6,8 @@ pub mod Good
 pub mod Looked
 pub mod Foreign
 pub mod Searched
-pub mod Among
 pub mod Below
-pub mod Apart
-pub mod Marks
+pub mod Front
 pub mod Rows
 pub mod Groups
 pub mod Numbers

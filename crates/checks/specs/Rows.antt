@@ -2,37 +2,32 @@
 use mathlib.Core.Path.{_≡_, refl, sym, ap, _∙_}
 use mathlib.Core.Bool.{Bool, true, false, not, _||_, _&&_, cond, and-true, and-false}
 use mathlib.Core.List.{List, [], _∷_}
-use Prim.Native.Nat.{ℕ, zero, suc, _+_, _-_, _*_, _≤_, _<_, zero-le}
+use Prim.Native.Nat.{ℕ, suc, _+_, _-_, _*_, _≤_, _<_}
 use native.Mathlib.Numerals.{add-one}
 use native.Mathlib.Omega.{arith}
-use borrow.Author.Tests.{eq-eqb, ne-eqb, eqb-true}
 use lib.Dec.{ltb, eqb}
-use lib.ListN.{length, take, drop, getD, set, replicate, length-set, drop-of-length-le}
-use lib.Seq.{drop-cons, take-at}
+use lib.ListN.{length, take, drop, replicate}
+use lib.Seq.{take-at}
 use Rattle.definition.specs.Lists.{each, keep, run, upto, isIn, distinct}
 use Rattle.definition.specs.Tables.{pad, row, ids, onlyPad, idsFirst, buildRow, buildRule, searchRule}
 use Rattle.definition.specs.Refusals.{badLength, badTable}
 use Rattle.laws.specs.Tables.{row-fits, ids-split}
 use Rattle.laws.specs.Parts.{part-length}
+use Rattle.laws.specs.Truth.{and-both}
 use Rattle.checks.specs.Bools.{not-true, not-false}
 use Rattle.checks.specs.Lengths.{wrongLength}
-use Rattle.checks.specs.Lent.{part-is, rest-is, front-is}
-use Rattle.checks.specs.Below.{allBelow, below-more}
-use Rattle.checks.specs.Apart.{apart, apart-one}
-use Rattle.checks.specs.Marks.{AtMost, Repeats, fresh, mark-one, mark-most}
+use Rattle.checks.specs.Lent.{part-is, rest-is, front-is as front-of}
+use Rattle.checks.specs.Below.{allBelow}
+use Rattle.checks.specs.Front.{entries, front-is, entries-ids}
+use Rattle.repeats.specs.Apart.{apart, apart-one}
 
 -- ---- one row
 
 pub record RowReady (n own : ℕ) (marks words : List ℕ) : Type 0 where
   pub nodes : n ≤ 65536
   pub own-in : own < n
-  pub room : length marks ≡ 65536
-  pub most : AtMost own marks
+  pub room : length marks ≡ 16384
   pub few : length words ≤ 128
-
-pub record RowTested (n own : ℕ) (words : List ℕ) (r : Bool) (marks : List ℕ) : Type 0 where
-  pub is : r ≡ not (buildRow n own words)
-  pub most : AtMost (own + 1) marks
 
 -- the ids of a row are below n exactly if its words keep the search rule
 pub rule-ids : (n : ℕ) (words : List ℕ) → searchRule n words ≡ allBelow n (ids words)
@@ -51,36 +46,6 @@ pub ids-are : (ws : List ℕ) → idsFirst ws ≡ true → ids ws ≡ take (leng
 ids-are ws e =
     let k = length (ids ws) in
     sym (ap (λ (l : List ℕ). take k l) (ids-split ws e) ∙ take-at (ids ws) (replicate (length ws - k) pad) k refl)
-
--- ---- the count of ids, after i words
-pub record Counted (words : List ℕ) (i count : ℕ) : Type 0 where
-  pub upto : i ≤ length words
-  pub few : count ≤ i
-  pub same : count + length (ids (drop i words)) ≡ length (ids words)
-
-pub count-start : (words : List ℕ) → Counted words 0 0
-count-start words = record { upto = omega arith; few = omega arith; same = omega arith }
-
-module _ (words : List ℕ) (i count : ℕ) (w : Counted words i count) (h : i < length words) where
-  count-step : (t : Bool) → eqb (getD words i 0) pad ≡ t
-      → length (ids (drop i words)) ≡ length (cond (not t) (getD words i 0 ∷ ids (drop (i + 1) words)) (ids (drop (i + 1) words)))
-  unfolding ids keep
-  count-step t e = rw (drop-cons words i 0 h, add-one i, e) refl
-
-  pub count-id : (getD words i 0 ≡ 0xFFFFFFFF → ⊥) → Counted words (i + 1) (count + 1)
-  unfolding pad
-  count-id e = let s = count-step false (ne-eqb _ _ e) in let q = w .same in let f = w .few in record { upto = omega arith; few = omega arith; same = omega arith }
-
-  pub count-pad : getD words i 0 ≡ 0xFFFFFFFF → Counted words (i + 1) count
-  unfolding pad
-  count-pad e = let s = count-step true (eq-eqb _ _ e) in let q = w .same in let f = w .few in record { upto = omega arith; few = omega arith; same = omega arith }
-
-pub count-end : (words : List ℕ) (i count : ℕ) → Counted words i count → length words ≤ i → count ≡ length (ids words)
-unfolding ids keep
-count-end words i count w h =
-    let z : length (keep (λ w. not (eqb w pad)) (drop i words)) ≡ 0 = rw (drop-of-length-le words h) refl in
-    let q = w .same in
-    omega arith
 
 -- ---- the tests of one row
 module _ (n own : ℕ) (words : List ℕ) where
@@ -104,56 +69,38 @@ module _ (n own : ℕ) (words : List ℕ) where
       ∙ sym (apart-one own (ids words))
       ∙ ap (λ (l : List ℕ). apart (own ∷ []) l) (ids-are words f)
 
-  -- the ids of such a row have a mark
-  pub row-below : searchRule n words ≡ true → idsFirst words ≡ true → allBelow n (take (length (ids words)) words) ≡ true
-  row-below e f = ap (λ (l : List ℕ). allBelow n l) (sym (ids-are words f)) ∙ sym (rule-ids n words) ∙ e
+  module _ (few : n ≤ 65536) (count : ℕ) (size : count ≡ length (entries n words)) (inside : count ≤ length words) where
+    rest-front : onlyPad (take (length words - count) (drop count words)) ≡ (idsFirst words && searchRule n words)
+    rest-front =
+        ap (λ (l : List ℕ). onlyPad l) (rest-is count words inside) ∙ ap (λ (k : ℕ). onlyPad (drop k words)) size ∙ front-is n few words
 
-  module _ (marks : List ℕ) (ready : RowReady n own marks words) where
-    early : buildRow n own words ≡ false → RowTested n own words true marks
-    early e = record { is = ap not (sym e); most = λ x. let q = ready .most x in omega arith }
+    -- a word beyond them is no padding
+    pub row-bad-rest : onlyPad (take (length words - count) (drop count words)) ≡ false → true ≡ not (buildRow n own words)
+    row-bad-rest e = ap not (sym (go (idsFirst words) refl (sym rest-front ∙ e)))
+      where
+        go : (t : Bool) → idsFirst words ≡ t → (t && searchRule n words) ≡ false → buildRow n own words ≡ false
+        go true q h = row-foreign h
+        go false q h = row-mixed q
 
-    pub row-bad-word : searchRule n words ≡ false → RowTested n own words true marks
-    row-bad-word e = early (row-foreign e)
-
-    module _ (count : ℕ) (size : count ≡ length (ids words)) (inside : count ≤ length words) where
-      first-is : onlyPad (take (length words - count) (drop count words)) ≡ idsFirst words
-      unfolding idsFirst
-      first-is = ap (λ (l : List ℕ). onlyPad l) (rest-is count words inside) ∙ ap (λ (k : ℕ). onlyPad (drop k words)) size
-
-      front : take (count - 0) words ≡ take (length (ids words)) words
-      front = front-is count words ∙ ap (λ (k : ℕ). take k words) size
-
-      pub row-bad-order : onlyPad (take (length words - count) (drop count words)) ≡ false → RowTested n own words true marks
-      row-bad-order e = early (row-mixed (sym first-is ∙ e))
-
-      module _ (rule : searchRule n words ≡ true) (padded : onlyPad (take (length words - count) (drop count words)) ≡ true) where
-        pub row-room : allBelow (length (set marks own (own + 1))) (take (count - 0) words) ≡ true
-        row-room =
-            ap (λ (l : List ℕ). allBelow (length (set marks own (own + 1))) l) front
-            ∙ below-more n _ _ (let s = length-set marks own (own + 1) in let q = ready .room in let m = ready .nodes in omega arith)
-            (row-below rule (sym first-is ∙ padded))
-
-        pub row-end : (r : Bool) (after : List ℕ) → Repeats (set marks own (own + 1)) (own + 1) (take (count - 0) words) r after → RowTested n own words r after
-        row-end r after p = record {
-          is = p .is (own ∷ []) (mark-one marks (own + 1) own marked [] (fresh marks own (own + 1) (ready .most) (omega arith)))
-              ∙ ap not (ap (λ (l : List ℕ). apart (own ∷ []) l) front ∙ sym (row-repeats rule (sym first-is ∙ padded)));
-          most = p .most (mark-most marks (own + 1) own marked (λ x. let q = ready .most x in omega arith));
-        }
-          where
-            marked : own < length marks
-            marked = let q = ready .room in let m = ready .nodes in let o = ready .own-in in omega arith
+    -- they are the ids of the row
+    pub row-end : onlyPad (take (length words - count) (drop count words)) ≡ true → (r : Bool) → r ≡ not (apart (own ∷ []) (take (count - 0) words))
+        → r ≡ not (buildRow n own words)
+    row-end e r p =
+        let s = and-both (idsFirst words) _ (sym rest-front ∙ e) in
+        let all : count ≡ length (ids words) = size ∙ ap length (entries-ids n few words (s .1)) in
+        let front : take (count - 0) words ≡ take (length (ids words)) words = front-of count words ∙ ap (λ (k : ℕ). take k words) all in
+        p ∙ ap not (ap (λ (l : List ℕ). apart (own ∷ []) l) front ∙ sym (row-repeats (s .1) (s .0)))
 
 -- ---- the rows from row i on
 pub record Rowed (n width : ℕ) (table : List ℕ) (i : ℕ) (marks : List ℕ) : Type 0 where
   pub upto : i ≤ n
-  pub room : length marks ≡ 65536
-  pub most : AtMost i marks
+  pub room : length marks ≡ 16384
   pub same : each (λ k. buildRow n k (row width table k)) (run i (n - i)) ≡ buildRule n width table
 
 module _ (n width : ℕ) (table : List ℕ) where
-  pub rows-start : (marks : List ℕ) → length marks ≡ 65536 → AtMost 0 marks → Rowed n width table 0 marks
+  pub rows-start : (marks : List ℕ) → length marks ≡ 16384 → Rowed n width table 0 marks
   unfolding buildRule upto
-  rows-start marks h m = let z : n - 0 ≡ n = omega arith in record { upto = omega arith; room = h; most = m; same = rw z refl }
+  rows-start marks h = let z : n - 0 ≡ n = omega arith in record { upto = omega arith; room = h; same = rw z refl }
 
   module _ (i : ℕ) (marks : List ℕ) (w : Rowed n width table i marks) (h : i < n) where
     rows-step : each (λ k. buildRow n k (row width table k)) (run i (n - i))
@@ -166,14 +113,13 @@ module _ (n width : ℕ) (table : List ℕ) where
       nodes = few;
       own-in = h;
       room = w .room;
-      most = w .most;
       few = let f = row-fits i n width h in let e = part-length (i * width) (i * width + width) table (omega arith) in omega arith;
     }
 
-    module _ (r : Bool) (after : List ℕ) (t : RowTested n i (take (i * width + width - i * width) (drop (i * width) table)) r after) where
+    module _ (r : Bool) (t : r ≡ not (buildRow n i (take (i * width + width - i * width) (drop (i * width) table)))) where
       tested : r ≡ not (buildRow n i (row width table i))
       unfolding row
-      tested = t .is ∙ ap (λ (l : List ℕ). not (buildRow n i l)) (part-is width (i * width) table)
+      tested = t ∙ ap (λ (l : List ℕ). not (buildRow n i l)) (part-is width (i * width) table)
 
       pub rows-bad : r ≡ true → true ≡ not (buildRule n width table)
       rows-bad e =
@@ -181,12 +127,12 @@ module _ (n width : ℕ) (table : List ℕ) where
           let broken : each (λ k. buildRow n k (row width table k)) (run i (n - i)) ≡ false = rows-step ∙ rw bad refl in
           ap not (sym broken ∙ w .same)
 
-      pub rows-more : r ≡ false → length after ≡ length marks → Rowed n width table (i + 1) after
-      rows-more e size =
+      pub rows-more : r ≡ false → (after : List ℕ) → length after ≡ length marks → Rowed n width table (i + 1) after
+      rows-more e after size =
           let good : buildRow n i (row width table i) ≡ true = not-false _ (sym tested ∙ e) in
           let kept : each (λ k. buildRow n k (row width table k)) (run i (n - i))
           ≡ each (λ k. buildRow n k (row width table k)) (run (i + 1) (n - (i + 1))) = rows-step ∙ rw good refl in
-          record { upto = omega arith; room = size ∙ w .room; most = t .most; same = sym kept ∙ w .same }
+          record { upto = omega arith; room = size ∙ w .room; same = sym kept ∙ w .same }
 
   pub rows-end : (i : ℕ) (marks : List ℕ) → Rowed n width table i marks → n ≤ i → false ≡ not (buildRule n width table)
   unfolding each run

@@ -1,28 +1,15 @@
 // Lists of ids: 7, 9 and 12.
 
 use super::limits::bad_extra;
+use repeats::has_repeat;
+use repeats::is_among;
 ghost use mathlib.Core.Path.{_≡_};
-ghost use mathlib.Core.Bool.{true, not};
+ghost use mathlib.Core.Bool.{not};
 ghost use Prim.Native.Nat.{_*_, _≤_};
 ghost use lib.ListN.{length};
-ghost use Rattle.definition.specs.Lists.{isIn, distinct, groups, each};
+ghost use Rattle.definition.specs.Lists.{groups, each};
 ghost use Rattle.definition.specs.Refusals.{goodGroup, badSeeds, badNodes, badOrder, badPivots};
 ghost use Rattle.checks.specs.Below.{allBelow};
-ghost use Rattle.checks.specs.Marks.{Repeats};
-
-// Whether x stands among the ids.
-pub fn is_among(x: u32, ids: &[u32]) -> bool
-    ensures { λ r. ⌜ r ≡ isIn x (now (ids .entry)) ⌝ }
-{
-    let mut i = 0;
-    while i < ids.len() {
-        if x == ids[i] {
-            return true;
-        }
-        i += 1;
-    }
-    false
-}
 
 // Whether every id is below n. There is no way out of the loop, so that several ids are looked at at once.
 pub fn all_below(n: usize, ids: &[u32]) -> bool
@@ -39,32 +26,6 @@ pub fn all_below(n: usize, ids: &[u32]) -> bool
         i += 1;
     }
     !found
-}
-
-// Whether an id is marked with the stamp already, or stands twice. Each id passed is marked with it.
-pub fn repeats(marks: &mut [u32], stamp: u32, ids: &[u32]) -> bool
-    requires { ⌜ allBelow (length (now marks)) (now ids) ≡ true ⌝ }
-    ensures { λ r. ⌜ Repeats (now (marks .entry)) stamp (now (ids .entry)) r (now (marks .exit)) ⌝ }
-{
-    let mut i = 0;
-    while i < ids.len() {
-        let x = ids[i] as usize;
-        if marks[x] == stamp {
-            return true;
-        }
-        marks[x] = stamp;
-        i += 1;
-    }
-    false
-}
-
-// Whether an id stands twice: one pass, with a mark for each id that there can be.
-pub fn has_repeat(ids: &[u32]) -> bool
-    requires { ⌜ allBelow 65536 (now ids) ≡ true ⌝ }
-    ensures { λ r. ⌜ r ≡ not (distinct (now (ids .entry))) ⌝ }
-{
-    let mut marks = [0u32; 65536];
-    repeats(&mut marks, 1, ids)
 }
 
 // 9, the nodes of a batch

@@ -2,15 +2,16 @@
 
 use super::limits::bad_length;
 use super::limits::slack;
-use super::sets::repeats;
+use repeats::row_repeats;
 ghost use mathlib.Core.Path.{_≡_};
 ghost use mathlib.Core.Bool.{not};
 ghost use Prim.Native.Nat.{_*_, _≤_};
 ghost use lib.ListN.{length};
-ghost use Rattle.definition.specs.Tables.{ids, onlyPad, searchRule, buildRule};
+ghost use Rattle.definition.specs.Tables.{onlyPad, searchRule, buildRow, buildRule};
 ghost use Rattle.definition.specs.Refusals.{badSearched, badTable};
 ghost use Rattle.definition.specs.Slack.{slack};
-ghost use Rattle.checks.specs.Rows.{RowReady, RowTested};
+ghost use Rattle.checks.specs.Front.{entries};
+ghost use Rattle.checks.specs.Rows.{RowReady};
 
 // Whether a word is neither padding nor an id. One more than padding wraps to 0, so one comparison of a word settles both;
 // there is no way out of the loop, so that it is done on several words at once.
@@ -42,15 +43,16 @@ pub fn bad_searched(n: usize, degree: usize, table: &[u32]) -> bool
     has_foreign(n, table)
 }
 
-// How many words are no padding.
-pub fn count_ids(words: &[u32]) -> usize
-    requires { ⌜ length (now words) ≤ 128 ⌝ }
-    ensures { λ r. ⌜ (r ≡ length (ids (now (words .entry)))) × (r ≤ length (now (words .entry))) ⌝ }
+// How many words are ids below n.
+pub fn count_entries(n: usize, words: &[u32]) -> usize
+    requires { ⌜ (n ≤ 65536) × (length (now words) ≤ 128) ⌝ }
+    ensures { λ r. ⌜ (r ≡ length (entries n (now (words .entry)))) × (r ≤ length (now (words .entry))) ⌝ }
 {
+    let most = n as u32;
     let mut count: u32 = 0;
     let mut i = 0;
     while i < words.len() {
-        if words[i] != 0xFFFFFFFF {
+        if words[i] < most {
             count += 1;
         }
         i += 1;
@@ -73,23 +75,16 @@ pub fn only_padding(words: &[u32]) -> bool
     !found
 }
 
-// Whether the row of `own` breaks the build rule. No mark exceeds `own` before, so own + 1 is a fresh stamp; with own marked
-// first, a row that names it is one with a repeat.
-fn bad_row(n: usize, own: usize, marks: &mut [u32], words: &[u32]) -> bool
+// Whether the row of `own` breaks the build rule. Where only padding stands beyond as many words as there are ids below n, those words are the ids.
+fn bad_row(n: usize, own: usize, marks: &mut [u8], words: &[u32]) -> bool
     requires { ⌜ RowReady n own (now marks) (now words) ⌝ }
-    ensures { λ r. ⌜ RowTested n own (now (words .entry)) r (now (marks .exit)) ⌝ }
+    ensures { λ r. ⌜ r ≡ not (buildRow n own (now (words .entry))) ⌝ }
 {
-    if has_foreign(n, words) {
-        return true;
-    }
-    let count = count_ids(words);
+    let count = count_entries(n, words);
     if !only_padding(&words[count..]) {
         return true;
     }
-    let next = own + 1;
-    let stamp = next as u32;
-    marks[own] = stamp;
-    repeats(marks, stamp, &words[0..count])
+    row_repeats(marks, own as u32, &words[0..count])
 }
 
 // Whether a row breaks the build rule: one pass over the table.
@@ -97,7 +92,7 @@ fn bad_rows(n: usize, width: usize, table: &[u32]) -> bool
     requires { ⌜ (n ≤ 65536) × (width ≤ 128) × (length (now table) ≡ n * width) ⌝ }
     ensures { λ r. ⌜ r ≡ not (buildRule n width (now (table .entry))) ⌝ }
 {
-    let mut marks = [0u32; 65536];
+    let mut marks = [0u8; 16384];
     let mut i = 0;
     while i < n {
         let a = i * width;

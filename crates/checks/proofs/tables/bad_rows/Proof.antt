@@ -5,7 +5,6 @@ use native.Mathlib.Omega.{arith}
 use lib.ListN.{length-replicate}
 use borrow.Author.Needs.{needs}
 use Rattle.laws.specs.Tables.{row-fits}
-use Rattle.checks.specs.Marks.{blank}
 use Rattle.checks.specs.Rows.{Rowed, rows-start, row-ready, rows-bad, rows-more, rows-end}
 use Rattle.checks.proofs.tables.bad_rows.Statement.{statement}
 use Rattle.checks.proofs.tables.bad_rows.Tie as tie
@@ -17,7 +16,7 @@ abbrev μ-loop : tie.MeasureT-loop
 μ-loop n width table marks₀ i₀ marks i = n - i
 
 loop-holds : tie.Need-loop-holds Inv-loop μ-loop
-loop-holds c = rows-start _ _ _ _ (length-replicate {A = ℕ} 65536 0) (blank 65536)
+loop-holds c = rows-start _ _ _ _ (length-replicate {A = ℕ} 16384 0)
 
 mul-a : tie.Need-mul-a Inv-loop μ-loop
 mul-a c =
@@ -62,7 +61,7 @@ returns : tie.Need-returns Inv-loop μ-loop
 returns c =
     let s = c .before .before .before .before .before .before in let t = s .before .before in
     let a = t .args in let o = s .loop in let h = c .before .before .before .before .before .loop-test .taken in
-    rows-bad (a .n) (a .width) (a .table .now) (o .i) (o .marks) (o .inv) h _ _ (c .before .before .bad-row .ensures) (c .if1 .taken)
+    rows-bad (a .n) (a .width) (a .table .now) (o .i) (o .marks) (o .inv) h _ (c .before .before .bad-row .ensures) (c .if1 .taken)
 
 add-i : tie.Need-add-i Inv-loop μ-loop
 add-i c = search needs
@@ -74,7 +73,7 @@ loop-again : tie.Need-loop-again Inv-loop μ-loop
 loop-again c =
     let s = c .before .before in let t = s .before .before .before .before in let u = t .before .before in
     let a = u .args in let o = t .loop in let h = c .before .before .before .before .before .loop-test .taken in
-    rows-more (a .n) (a .width) (a .table .now) (o .i) (o .marks) (o .inv) h _ _ (s .bad-row .ensures) (c .if1 .left) (s .bad-row .kept .1 .1 .0)
+    rows-more (a .n) (a .width) (a .table .now) (o .i) (o .marks) (o .inv) h _ (s .bad-row .ensures) (c .if1 .left) _ (s .bad-row .kept .1 .1 .0)
 
 returns-2 : tie.Need-returns-2 Inv-loop μ-loop
 returns-2 c = rows-end _ _ _ _ _ (c .before .loop .inv) (c .loop-test .left)

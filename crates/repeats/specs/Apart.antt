@@ -2,9 +2,12 @@
 use mathlib.Core.Path.{_≡_, refl, sym, ap, _∙_}
 use mathlib.Core.Bool.{Bool, true, false, not, _||_, _&&_, and-true, and-false}
 use mathlib.Core.List.{List, [], _∷_}
-use Prim.Native.Nat.{ℕ}
+use Prim.Native.Nat.{ℕ, _+_, _≤_, _<_}
+use native.Mathlib.Numerals.{add-one}
 use borrow.Author.Tests.{eqb-true, eqb-false, eq-eqb, ne-eqb}
 use lib.Dec.{eqb}
+use lib.ListN.{length, getD, drop, drop-of-length-le}
+use lib.Seq.{drop-cons}
 use Rattle.definition.specs.Lists.{each, isIn, distinct}
 
 -- none of the ids is in `seen` or stands twice
@@ -61,3 +64,13 @@ pub apart-one : (x : ℕ) (ids : List ℕ) → apart (x ∷ []) ids ≡ (distinc
 apart-one x ids =
     apart-is (x ∷ []) ids
     ∙ ap (λ (t : Bool). distinct ids && t) (clear-more x [] ids ∙ ap (λ (t : Bool). not (isIn x ids) && t) (clear-none ids) ∙ and-true (not (isIn x ids)))
+
+-- the ids from i on: the id at i, and those after it
+module _ (seen ids : List ℕ) (i : ℕ) where
+  pub apart-at : i < length ids → apart seen (drop i ids) ≡ (not (isIn (getD ids i 0) seen) && apart (getD ids i 0 ∷ seen) (drop (i + 1) ids))
+  unfolding apart
+  apart-at h = rw (add-one i, drop-cons ids i 0 h) refl
+
+  pub apart-end : length ids ≤ i → apart seen (drop i ids) ≡ true
+  unfolding apart
+  apart-end h = rw (drop-of-length-le ids h) refl
