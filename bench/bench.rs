@@ -229,8 +229,8 @@ fn builds(i: &Input, repeats: usize) -> (Vec<u32>, Vec<u32>) {
     (wide, closed)
 }
 
-/// The test of the build rule on a wide table: an empty batch with a word of room too little, which is refused by 10, so after the whole of the checks
-/// before it. First the table as it is opened, whose rows are full, then the one that was built.
+/// The test of the build rule on a wide table: an empty batch with a word of room too little, which is refused by 10, so after the whole
+/// of the checks before it. First a table whose rows are full, drawn as opening rows are, then the one that was built.
 fn rule(i: &Input, built: &mut [u32], repeats: usize) {
     let (n, width) = (i.n, ours::slack(PARAMS.degree));
     let mut g = Generator(1);

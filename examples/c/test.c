@@ -120,6 +120,11 @@ static void test_search(void) {
     struct searching s = the_line(25, 2, 2);
     s.vectors = bent;
     ANSWERS(s, 2, ((uint32_t[]){1, 2}), ((float[]){25, 25}));
+    /* a k above the beam brings no more than the beam, though the rows lead to four */
+    s = the_line(25, 1, 8), s.vectors = bent;
+    ANSWERS(s, 1, ((uint32_t[]){0}), ((float[]){225}));
+    s = the_line(25, 8, 8), s.vectors = bent;
+    ANSWERS(s, 4, ((uint32_t[]){3, 1, 2, 0}), ((float[]){0, 25, 25, 225}));
 }
 
 #define REFUSES(number, change) \

@@ -22,14 +22,25 @@ fn the_line() {
     assert_eq!(line_search(38, 2, 0).answers(), Ok(vec![]));
 }
 
+/// The line with its last entry moved to the query.
+fn bent(beam: usize, k: usize) -> Search {
+    Search {
+        bytes: vec![10, 20, 30, 25],
+        ..line_search(25, beam, k)
+    }
+}
+
 /// Entry 3 at 0 is missed: the walk stops before it.
 #[test]
 fn an_entry_that_is_missed() {
-    let bent = Search {
-        bytes: vec![10, 20, 30, 25],
-        ..line_search(25, 2, 2)
-    };
-    assert_eq!(bent.answers(), Ok(vec![(1, 25.0), (2, 25.0)]));
+    assert_eq!(bent(2, 2).answers(), Ok(vec![(1, 25.0), (2, 25.0)]));
+}
+
+/// A k above the beam brings no more than the beam, though the rows lead to four.
+#[test]
+fn more_asked_than_the_beam() {
+    assert_eq!(bent(1, 8).answers(), Ok(vec![(0, 225.0)]));
+    assert_eq!(bent(8, 8).answers(), Ok(vec![(3, 0.0), (1, 25.0), (2, 25.0), (0, 225.0)]));
 }
 
 /// Scores 900, 500, 500, 900.
