@@ -1,6 +1,6 @@
 /* How much stack each call of the library needs. A call is run on a stretch of memory that is filled with a pattern; the lowest place where the pattern is
- * gone tells how deep the call went. An empty call is taken off. Each call has several cases: short input, input that takes it down every path (a build whose
- * pools are cut at 750), 65,536 entries, and refusals. Prints a line of call and bytes for each, and exits with 1 if one is above its limit, or if a case
+ * gone tells how deep the call went. An empty call is taken off. Each call has several cases: short input, input that takes it deep (a build of 1,200 entries
+ * with beam 256), 65,536 entries, and refusals. Prints a line of call and bytes for each, and exits with 1 if one is above its limit, or if a case
  * ended with another number than it should. */
 #define _GNU_SOURCE
 #include <fjalgrout.h>
@@ -184,7 +184,7 @@ static void draws(void) {
     for (size_t i = w.params.extra; i < w.n * w.params.extra; i++) w.seeds[i] = w.seeds[i - w.params.extra];
 }
 
-/* Whole calls on a small world: every path when it is deep. */
+/* Whole calls on a small world. */
 static void whole(void) {
     draws();
     one("defaults", 0), one("distance", 0), one("medoid", 0), one("search", 0), one("records", 0);
