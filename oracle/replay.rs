@@ -1,4 +1,4 @@
-//! Makes the fixed list of cases that crates/replay replays: `stdin`, and from 000's answers alone `stdout`. The proved library takes no part in it.
+//! Makes the fixed list of cases that crates/test_replay replays: `stdin`, and from 000's answers alone `stdout`. The proved library takes no part in it.
 //! `oracle/list` compiles and runs it.
 #[allow(dead_code)]
 mod cases;

@@ -16,15 +16,15 @@ use Rattle.definition.specs.Batch.{Setting, batch, merged}
 use Rattle.definition.specs.Outcome.{settingOf}
 use Rattle.laws.specs.Parts.{part, Within, part-at, within-at, within-wider, within-trans}
 use Rattle.laws.specs.Words.{padding}
-use Rattle.pooling.specs.Regions.{Below}
-use Rattle.fresh.specs.Made.{Given, Between, Fit, RowsMade, freshAt as freshOne, FreshRows as AllFresh}
-use Rattle.fresh.specs.Once.{fresh-once, between-start}
+use Rattle.batch_pool.specs.Regions.{Below}
+use Rattle.batch_fresh.specs.Made.{Given, Between, Fit, RowsMade, freshAt as freshOne, FreshRows as AllFresh}
+use Rattle.batch_fresh.specs.Once.{fresh-once, between-start}
 use Rattle.laws.specs.Members.{mem-at}
-use Rattle.incoming.specs.Says.{entry}
-use Rattle.settle.proofs.Words.{row-id, row-pad}
-use Rattle.merge.specs.Layout.{freshAt}
-use Rattle.merge.specs.Says.{FreshRows, MergeReady, Merged}
-use Rattle.merge.specs.Zeroed.{zeroed-within, zero-part}
+use Rattle.batch_chains.specs.Says.{entry}
+use Rattle.prune_fit.proofs.Words.{row-id, row-pad}
+use Rattle.batch_merge.specs.Layout.{freshAt}
+use Rattle.batch_merge.specs.Says.{FreshRows, MergeReady, Merged}
+use Rattle.batch_merge.specs.Zeroed.{zeroed-within, zero-part}
 use Rattle.batch.specs.Says.{BatchReady, BatchRun}
 
 -- each word of a fresh row is an id below n or padding

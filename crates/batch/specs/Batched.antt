@@ -19,10 +19,10 @@ use Rattle.definition.specs.Outcome.{refused, done, BatchOut, batchKept, batchD
 use Rattle.laws.specs.Truth.{and-both}
 use Rattle.laws.specs.Members.{each-mem, mem-at}
 use Rattle.checks.specs.Below.{below-at}
-use Rattle.numbers.specs.BuildNumbers.{batch-accepted}
-use Rattle.pooling.specs.Regions.{Below}
-use Rattle.room.specs.Clear.{RoomClear}
-use Rattle.room.specs.Outcomes.{by-refusal, by-success}
+use Rattle.checks_number.specs.BuildNumbers.{batch-accepted}
+use Rattle.batch_pool.specs.Regions.{Below}
+use Rattle.scratch.specs.Clear.{RoomClear}
+use Rattle.scratch.specs.Outcomes.{by-refusal, by-success}
 use Rattle.batch.specs.Says.{BatchReady, BatchRun}
 
 -- every seed of accepted groups is an entry

@@ -8,8 +8,8 @@ use Rattle.definition.specs.declared.Params.{Params}
 use Rattle.definition.specs.Batch.{batch}
 use Rattle.definition.specs.Outcome.{settingOf}
 use Rattle.laws.specs.Parts.{Within}
-use Rattle.pooling.specs.Regions.{Below}
-use Rattle.fresh.specs.Made.{Given}
+use Rattle.batch_pool.specs.Regions.{Below}
+use Rattle.batch_fresh.specs.Made.{Given}
 
 pub record BatchReady (n dim : ℕ) (vectors : List ℕ) (p : Params) (width start : ℕ) (nodes seeds wide words : List ℕ) (floats : List Float) : Type 0 where
   pub given : Given n dim width p vectors wide

@@ -26,7 +26,7 @@ pub fn run_batch(
     let e = a + n;
     laws::clear_words(&mut words[0..n]);
     laws::clear_words(&mut words[a..e]);
-    fresh::fresh_rows(
+    batch_fresh::fresh_rows(
         words,
         floats,
         vectors,
@@ -39,7 +39,7 @@ pub fn run_batch(
         nodes,
         seeds,
     );
-    merge::merge(n, dim, vectors, params, slack, nodes, wide, words, floats);
+    batch_merge::merge(n, dim, vectors, params, slack, nodes, wide, words, floats);
 }
 
 // One batch of the wide table, or the number of the refusal.
@@ -59,7 +59,7 @@ pub fn batch(
         (record { n = n; dim = dim; vectors = now (vectors .entry); params = params; start = start; nodes = now (nodes .entry); seeds = now (seeds .entry); wide = now (wide .entry); words = now (words .entry); floats = now (floats .entry) })
         (record { answer = r; wide = now (wide .exit); words = now (words .exit); floats = now (floats .exit) }) ⌝ }
 {
-    let number = numbers::batch_number(
+    let number = checks_number::batch_number(
         n,
         dim,
         vectors,
@@ -72,7 +72,7 @@ pub fn batch(
         floats.len(),
     );
     if number != 0 {
-        return answer::refused(number);
+        return answers::refused(number);
     }
     let slack = checks::limits::slack(params.degree);
     run_batch(
@@ -88,6 +88,6 @@ pub fn batch(
         words,
         floats,
     );
-    room::clear_room(n, words, floats);
-    answer::done()
+    scratch::clear_room(n, words, floats);
+    answers::done()
 }

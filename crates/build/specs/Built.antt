@@ -17,16 +17,16 @@ use Rattle.definition.specs.Refusals.{BuildCall, buildNumber, badAlpha}
 use Rattle.definition.specs.Outcome.{settingOf, refused, done, BuildOut, buildKept, builtWide, buildDone, buildOut, BuildMeets}
 use Rattle.laws.specs.Parts.{within-trans}
 use Rattle.checks.specs.Below.{below-at}
-use Rattle.numbers.specs.BuildNumbers.{build-accepted}
-use Rattle.pooling.specs.Regions.{Below}
+use Rattle.checks_number.specs.BuildNumbers.{build-accepted}
+use Rattle.batch_pool.specs.Regions.{Below}
 use Rattle.laws.specs.Members.{mem-at}
 use Rattle.promises.specs.Kept.{TableKept}
 use Rattle.promises.specs.Rule.{rule-kept, kept-rule, kept-entry}
 use Rattle.promises.specs.build.Batches.{opened-kept}
 use Rattle.batch.specs.Batched.{seeds-below}
-use Rattle.room.specs.Clear.{RoomClear}
-use Rattle.room.specs.Outcomes.{by-refusal, by-success}
-use Rattle.open_close.specs.Says.{OpenReady, CloseReady}
+use Rattle.scratch.specs.Clear.{RoomClear}
+use Rattle.scratch.specs.Outcomes.{by-refusal, by-success}
+use Rattle.build_rows.specs.Says.{OpenReady, CloseReady}
 use Rattle.build.specs.Factors.{factors-length, factors-within}
 use Rattle.build.specs.Runs.{Entries, RunsReady, RunsDone}
 

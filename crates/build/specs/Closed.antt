@@ -12,11 +12,11 @@ use Rattle.definition.specs.Slack.{slack}
 use Rattle.definition.specs.Build.{close}
 use Rattle.definition.specs.Refusals.{CloseCall, closeNumber}
 use Rattle.definition.specs.Outcome.{settingOf, refused, done, CloseOut, closeKept, closeDone, closeOut, CloseMeets}
-use Rattle.numbers.specs.BuildNumbers.{close-accepted}
-use Rattle.room.specs.Clear.{RoomClear}
-use Rattle.room.specs.Outcomes.{by-refusal, by-success}
+use Rattle.checks_number.specs.BuildNumbers.{close-accepted}
+use Rattle.scratch.specs.Clear.{RoomClear}
+use Rattle.scratch.specs.Outcomes.{by-refusal, by-success}
 use Rattle.build.specs.Factors.{factors-length, factors-within}
-use Rattle.open_close.specs.Says.{CloseReady}
+use Rattle.build_rows.specs.Says.{CloseReady}
 
 abbrev pub closeCall : ℕ → ℕ → List ℕ → Params → List ℕ → List ℕ → List ℕ → List Float → CloseCall
 closeCall n dim vectors params wide closed words floats = record { n = n; dim = dim; vectors = vectors; params = params; wide = wide; closed = closed; words = words; floats = floats }

@@ -8,9 +8,9 @@ use Rattle.definition.specs.Slack.{slack}
 use Rattle.definition.specs.Build.{open′}
 use Rattle.definition.specs.Refusals.{OpenCall, openNumber}
 use Rattle.definition.specs.Outcome.{refused, done, OpenOut, openKept, openDone, openOut, OpenMeets}
-use Rattle.numbers.specs.BuildNumbers.{open-accepted}
-use Rattle.room.specs.Outcomes.{by-refusal, by-success}
-use Rattle.open_close.specs.Says.{OpenReady}
+use Rattle.checks_number.specs.BuildNumbers.{open-accepted}
+use Rattle.scratch.specs.Outcomes.{by-refusal, by-success}
+use Rattle.build_rows.specs.Says.{OpenReady}
 
 abbrev pub openCall : ℕ → ℕ → List ℕ → List ℕ → OpenCall
 openCall n degree opening wide = record { n = n; degree = degree; opening = opening; wide = wide }

@@ -12,13 +12,13 @@ pub fn open(n: usize, degree: usize, opening: &[u32], wide: &mut [u32]) -> Answe
         (record { n = n; degree = degree; opening = now (opening .entry); wide = now (wide .entry) })
         (record { answer = r; wide = now (wide .exit) }) ⌝ }
 {
-    let number = numbers::open_number(n, degree, opening, wide.len());
+    let number = checks_number::open_number(n, degree, opening, wide.len());
     if number != 0 {
-        return answer::refused(number);
+        return answers::refused(number);
     }
     let slack = checks::limits::slack(degree);
-    open_close::open_rows(n, degree, slack, opening, wide);
-    answer::done()
+    build_rows::open_rows(n, degree, slack, opening, wide);
+    answers::done()
 }
 
 // Each row longer than the degree pruned into the closed table, the others copied; or the number of the refusal.
@@ -36,7 +36,7 @@ pub fn close(
         (record { n = n; dim = dim; vectors = now (vectors .entry); params = params; wide = now (wide .entry); closed = now (closed .entry); words = now (words .entry); floats = now (floats .entry) })
         (record { answer = r; closed = now (closed .exit); words = now (words .exit); floats = now (floats .exit) }) ⌝ }
 {
-    let number = numbers::close_number(
+    let number = checks_number::close_number(
         n,
         dim,
         vectors,
@@ -47,10 +47,10 @@ pub fn close(
         floats.len(),
     );
     if number != 0 {
-        return answer::refused(number);
+        return answers::refused(number);
     }
     let width = checks::limits::slack(params.degree);
-    open_close::close_rows(
+    build_rows::close_rows(
         n,
         dim,
         vectors,
@@ -60,8 +60,8 @@ pub fn close(
         closed,
         &mut floats[0..750],
     );
-    room::clear_room(n, words, floats);
-    answer::done()
+    scratch::clear_room(n, words, floats);
+    answers::done()
 }
 
 // Where the run that begins at `at` ends: 256 on, the last one at n.
@@ -132,7 +132,7 @@ pub fn build(
         (record { n = n; dim = dim; vectors = now (vectors .entry); params = params; start = start; order = now (order .entry); seeds = now (seeds .entry); opening = now (opening .entry); wide = now (wide .entry); closed = now (closed .entry); words = now (words .entry); floats = now (floats .entry) })
         (record { answer = r; wide = now (wide .exit); closed = now (closed .exit); words = now (words .exit); floats = now (floats .exit) }) ⌝ }
 {
-    let number = numbers::build_number(
+    let number = checks_number::build_number(
         n,
         dim,
         vectors,
@@ -147,10 +147,10 @@ pub fn build(
         floats.len(),
     );
     if number != 0 {
-        return answer::refused(number);
+        return answers::refused(number);
     }
     let slack = checks::limits::slack(params.degree);
-    open_close::open_rows(n, params.degree, slack, opening, wide);
+    build_rows::open_rows(n, params.degree, slack, opening, wide);
     run_batches(
         n,
         dim,
@@ -164,7 +164,7 @@ pub fn build(
         words,
         floats,
     );
-    open_close::close_rows(
+    build_rows::close_rows(
         n,
         dim,
         vectors,
@@ -174,6 +174,6 @@ pub fn build(
         closed,
         &mut floats[0..750],
     );
-    room::clear_room(n, words, floats);
-    answer::done()
+    scratch::clear_room(n, words, floats);
+    answers::done()
 }

@@ -9,7 +9,7 @@ use lib.Dec.{ltb}
 use lib.ListN.{length, getD}
 use Rattle.definition.specs.Lists.{each}
 use Rattle.laws.specs.Truth.{and-both}
-use Rattle.repeats.specs.Bits.{Small}
+use Rattle.checks_repeats.specs.Bits.{Small}
 
 unfoldable pub allBelow : ℕ → List ℕ → Bool
 allBelow n ids = each (λ u. ltb u n) ids

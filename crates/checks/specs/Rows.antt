@@ -19,7 +19,7 @@ use Rattle.checks.specs.Lengths.{wrongLength}
 use Rattle.checks.specs.Lent.{part-is, rest-is, front-is as front-of}
 use Rattle.checks.specs.Below.{allBelow}
 use Rattle.checks.specs.Front.{entries, front-is, entries-ids}
-use Rattle.repeats.specs.Apart.{apart, apart-one}
+use Rattle.checks_repeats.specs.Apart.{apart, apart-one}
 
 -- ---- one row
 

@@ -1,8 +1,8 @@
 // Lists of ids: 7, 9 and 12.
 
 use super::limits::bad_extra;
-use repeats::has_repeat;
-use repeats::is_among;
+use checks_repeats::has_repeat;
+use checks_repeats::is_among;
 ghost use mathlib.Core.Path.{_≡_};
 ghost use mathlib.Core.Bool.{not};
 ghost use Prim.Native.Nat.{_*_, _≤_};

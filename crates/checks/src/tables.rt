@@ -2,7 +2,7 @@
 
 use super::limits::bad_length;
 use super::limits::slack;
-use repeats::row_repeats;
+use checks_repeats::row_repeats;
 ghost use mathlib.Core.Path.{_≡_};
 ghost use mathlib.Core.Bool.{not};
 ghost use Prim.Native.Nat.{_*_, _≤_};

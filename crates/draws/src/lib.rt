@@ -29,7 +29,7 @@ pub struct Stepped {
 fn kept(state: u64, number: u32) -> Stepped
     ensures { λ r. ⌜ r ≡ stepped state (refused number) ⌝ }
 {
-    let answer = answer::refused(number);
+    let answer = answers::refused(number);
     Stepped { state, answer }
 }
 
@@ -37,7 +37,7 @@ fn kept(state: u64, number: u32) -> Stepped
 fn filled(state: u64) -> Stepped
     ensures { λ r. ⌜ r ≡ stepped state done ⌝ }
 {
-    let answer = answer::done();
+    let answer = answers::done();
     Stepped { state, answer }
 }
 
@@ -46,7 +46,7 @@ pub fn one_drawn(state: u64, m: u32) -> Stepped
     ensures { λ r. ⌜ DrawSays state m r ⌝ }
 {
     let next = step::advance(state);
-    let answer = answer::drew(step::drawn(m, next));
+    let answer = answers::drew(step::drawn(m, next));
     Stepped {
         state: next,
         answer,

@@ -3,7 +3,7 @@
 use super::numbers::wrapped;
 use super::step::advance;
 use super::step::drawn;
-use repeats::is_among;
+use checks_repeats::is_among;
 ghost use mathlib.Core.Path.{_≡_};
 ghost use mathlib.Core.List.{[], _∷_};
 ghost use Prim.Native.Nat.{_≤_, _<_};

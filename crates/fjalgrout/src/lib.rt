@@ -199,7 +199,7 @@ pub extern "C" fn fjalgrout_records(
         (now (run .entry))
         (record { plain = record { answer = r; words = now (words .exit); floats = now (floats .exit); ids = now (ids .exit); dists = now (dists .exit) }; records = now (run .exit) }) ⌝ }
 {
-    records::search_records(
+    search_records::search_records(
         n,
         dim,
         vectors,

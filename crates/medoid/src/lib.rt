@@ -48,10 +48,10 @@ fn leader(n: usize, dim: usize, vectors: &[u8], pivots: &[u32]) -> usize
 pub fn medoid(n: usize, dim: usize, vectors: &[u8], pivots: &[u32]) -> Answer
     ensures { λ r. ⌜ r ≡ medoidOut (record { n = n; dim = dim; vectors = now (vectors .entry); pivots = now (pivots .entry) }) ⌝ }
 {
-    let number = numbers::medoid_number(n, dim, vectors, pivots);
+    let number = checks_number::medoid_number(n, dim, vectors, pivots);
     if number != 0 {
-        return answer::refused(number);
+        return answers::refused(number);
     }
     let id = leader(n, dim, vectors, pivots);
-    answer::chosen(id as u32)
+    answers::chosen(id as u32)
 }

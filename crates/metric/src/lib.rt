@@ -55,15 +55,15 @@ pub fn distance(a: &[u8], b: &[u8]) -> Answer
 {
     let dim = a.len();
     if dim == 0 {
-        return answer::refused(1);
+        return answers::refused(1);
     }
     if 256 < dim {
-        return answer::refused(1);
+        return answers::refused(1);
     }
     if dim != b.len() {
-        return answer::refused(11);
+        return answers::refused(11);
     }
-    answer::measured(summed(a, b))
+    answers::measured(summed(a, b))
 }
 
 // The distance from a query to entry i of the flat vectors.

@@ -19,8 +19,8 @@ use Rattle.whole.specs.Whole.{zero-whole}
 use Rattle.whole.specs.Order.{eq-whole}
 use Rattle.metric.specs.Exact.{Exact}
 use Rattle.metric.specs.Laws.{between-from, between-sym}
-use Rattle.items.specs.Items.{itemsOf}
-use Rattle.items.specs.Held.{items-at, items-length}
+use Rattle.prune_items.specs.Items.{itemsOf}
+use Rattle.prune_items.specs.Held.{items-at, items-length}
 use Rattle.prune.specs.Says.{quotientF, shadedFrom}
 
 zero-test : (p : ℕ) → p ≤ limit → eq (whole p) nought ≡ eqb p 0

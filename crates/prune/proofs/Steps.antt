@@ -13,8 +13,8 @@ use Rattle.definition.specs.Metric.{between}
 use Rattle.definition.specs.Floats.{largest, above, one}
 use Rattle.definition.specs.Prune.{rounds, nextAlpha, targetOf, mostRounds}
 use Rattle.whole.specs.Whole.{count}
-use Rattle.items.specs.Items.{itemsOf}
-use Rattle.items.specs.Held.{items-at, items-length}
+use Rattle.prune_items.specs.Items.{itemsOf}
+use Rattle.prune_items.specs.Held.{items-at, items-length}
 use Rattle.prune.specs.Says.{shadedFrom, roundsOf, Taken}
 use Rattle.prune.proofs.Walking.{onward, onward-start, onward-skip, onward-take, onward-end, onward-full}
 

@@ -15,10 +15,10 @@ use Rattle.definition.specs.Prune.{fresh, cut, candidates, prunedFrom, prune}
 use Rattle.definition.specs.Tables.{padded}
 use Rattle.whole.specs.Whole.{IsWhole}
 use Rattle.metric.specs.Exact.{VectorIn}
-use Rattle.items.specs.Items.{All, itemsOf}
-use Rattle.items.specs.Held.{all-take, items-ids, ids-items}
-use Rattle.items.specs.Sorting.{all-sort}
-use Rattle.pool.specs.Says.{Distinct, Pool, Chosen}
+use Rattle.prune_items.specs.Items.{All, itemsOf}
+use Rattle.prune_items.specs.Held.{all-take, items-ids, ids-items}
+use Rattle.prune_items.specs.Sorting.{all-sort}
+use Rattle.prune_pool.specs.Says.{Distinct, Pool, Chosen}
 use Rattle.prune.specs.Says.{Measurable, Written, Stretched}
 
 all-fresh : (P : Item → Type 0) (seen : List ℕ) (l : List Item) → All P l → All P (fresh seen l)

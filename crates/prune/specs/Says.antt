@@ -11,7 +11,7 @@ use Rattle.definition.specs.Prune.{shadeAll, rounds, targetOf, mostRounds}
 use Rattle.definition.specs.Tables.{padded}
 use Rattle.whole.specs.Whole.{IsWhole}
 use Rattle.metric.specs.Exact.{VectorIn}
-use Rattle.items.specs.Items.{All, itemsOf}
+use Rattle.prune_items.specs.Items.{All, itemsOf}
 
 -- the quotient as the code has it, on floats
 unfoldable pub quotientF : Float → Float → Float

@@ -1,6 +1,6 @@
 // Part 5, the rounds: which of the candidates become the row, and the writer of the row.
 use metric::from_query;
-use pool::choose;
+use prune_pool::choose;
 ghost use mathlib.Core.Path.{_≡_};
 ghost use mathlib.Core.List.{_++_};
 ghost use Prim.Native.Nat.{_+_, _-_, _*_, _≤_, _<_};
@@ -10,8 +10,8 @@ ghost use Rattle.definition.specs.Metric.{between};
 ghost use Rattle.definition.specs.Prune.{targetOf, increment, nextAlpha, prunedFrom, prune};
 ghost use Rattle.definition.specs.Tables.{pad};
 ghost use Rattle.metric.specs.Exact.{VectorIn};
-ghost use Rattle.items.specs.Items.{itemsOf};
-ghost use Rattle.pool.specs.Says.{Distinct};
+ghost use Rattle.prune_items.specs.Items.{itemsOf};
+ghost use Rattle.prune_pool.specs.Says.{Distinct};
 ghost use Rattle.prune.specs.Says.{quotientF, Measurable, shadedFrom, Shaded, roundsOf, Taken, Written, Stretched};
 
 // f32::MAX

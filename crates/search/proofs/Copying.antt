@@ -8,7 +8,7 @@ use lib.ListN.{length, getD, take, drop, set, length-set}
 use lib.Seq.{length-take-le, getD-take}
 use Rattle.definition.specs.Refusals.{searchWords, searchFloats}
 use Rattle.laws.specs.Backwards.{rev, back-step}
-use Rattle.room.specs.Clear.{FrontClear}
+use Rattle.scratch.specs.Clear.{FrontClear}
 use Rattle.search.specs.Answering.{Wiped}
 
 -- i places of the output are written

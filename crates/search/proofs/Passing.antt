@@ -19,7 +19,7 @@ use Rattle.beam.specs.Held.{Holds}
 use Rattle.greedy.specs.Scratch.{Room, Measures, Walks}
 use Rattle.laws.specs.Words.{Row}
 use Rattle.marks.specs.Epochs.{fresh-clear}
-use Rattle.numbers.specs.SearchNumber.{Accepted}
+use Rattle.checks_number.specs.SearchNumber.{Accepted}
 use Rattle.search.specs.Answering.{Listed, Wiped, workOf, found-count, found-ids, found-dists}
 use Rattle.search.specs.Statement.{outOf, Searched}
 

@@ -9,7 +9,7 @@ ghost use Rattle.definition.specs.Lists.{cleared};
 ghost use Rattle.definition.specs.Floats.{nought};
 ghost use Rattle.definition.specs.Refusals.{searchWords, searchFloats};
 ghost use Rattle.definition.specs.Outcome.{SearchMeets};
-ghost use Rattle.numbers.specs.SearchNumber.{callOf, Accepted};
+ghost use Rattle.checks_number.specs.SearchNumber.{callOf, Accepted};
 ghost use Rattle.search.specs.Answering.{Listed, Wiped};
 ghost use Rattle.search.specs.Statement.{outOf, Searched};
 
@@ -53,7 +53,7 @@ fn wipe(words: &mut [u32], floats: &mut [f32], n: usize)
 {
     let w = 2 * n + 256;
     let f = n + 256;
-    room::clear_front(words, floats, w, f);
+    scratch::clear_front(words, floats, w, f);
 }
 
 // A search that no check refuses, for a caller who holds the proof of it: no check is made.
@@ -93,7 +93,7 @@ pub fn search_accepted(
     let fe = n + 256;
     list_answers(&words[w..we], &floats[n..fe], len, count, ids, dists);
     wipe(words, floats, n);
-    answer::found(count)
+    answers::found(count)
 }
 
 // The answers of a search in `ids` and `dists`, best first, and how many they are; or the number of the refusal, which is known from lengths and from what is
@@ -117,7 +117,7 @@ pub fn search(
         (record { n = n; dim = dim; vectors = now (vectors .entry); degree = degree; beam = beam; k = k; start = start; table = now (table .entry); query = now (query .entry); words = now (words .entry); floats = now (floats .entry); ids = now (ids .entry); dists = now (dists .entry) })
         (record { answer = r; words = now (words .exit); floats = now (floats .exit); ids = now (ids .exit); dists = now (dists .exit) }) ⌝ }
 {
-    let number = numbers::search_number(
+    let number = checks_number::search_number(
         n,
         dim,
         vectors,
@@ -134,7 +134,7 @@ pub fn search(
         k,
     );
     if number != 0 {
-        return answer::refused(number);
+        return answers::refused(number);
     }
     search_accepted(
         n,

@@ -10,7 +10,7 @@ use Rattle.definition.specs.Beam.{Item}
 use Rattle.definition.specs.Refusals.{SearchCall, searchNumber}
 use Rattle.definition.specs.Outcome.{SearchOut, SearchMeets, found, byNumber}
 use Rattle.definition.specs.Seek.{theN, theDim, theDegree, theVectors, theRows, theQuery, partAt, seekCall, printRefused, printFound}
-use Rattle.numbers.specs.SearchNumber.{callOf}
+use Rattle.checks_number.specs.SearchNumber.{callOf}
 use Rattle.search.specs.Reading.{number-is, count-is, ids-are, dists-are}
 use Rattle.seek_text.specs.Text.{PlacesOf}
 use Rattle.seek_print.specs.Printed.{Put, Wholes, foundText}

@@ -15,7 +15,7 @@ use Rattle.definition.specs.Tables.{row}
 use Rattle.definition.specs.Refusals.{searchNumber}
 use Rattle.definition.specs.Outcome.{found}
 use Rattle.definition.specs.Seek.{isSample, isRowWord, wellFormed, filled, shaped, theN, theDim, theDegree, theVectors, theRows, theQuery}
-use Rattle.numbers.specs.SearchNumber.{accepted}
+use Rattle.checks_number.specs.SearchNumber.{accepted}
 use Rattle.metric.specs.Laws.{Bytes, metric-small}
 use Rattle.beam.specs.Held.{All, Small}
 use Rattle.seek_answer.proofs.Lent.{lentCall}

@@ -1,7 +1,7 @@
 -- `open`: the number, the rows.
 use mathlib.Core.Path.{refl, sym, _∙_}
 use borrow.Author.Needs.{needs}
-use Rattle.numbers.specs.BuildNumbers.{open-accepted}
+use Rattle.checks_number.specs.BuildNumbers.{open-accepted}
 use Rattle.build.specs.Opened.{openCall, open-ready, open-refused, open-done}
 use Rattle.build.proofs.open.Statement.{statement}
 use Rattle.build.proofs.open.Tie as tie

@@ -44,10 +44,10 @@ use Rattle.definition.specs.Outcome.{RecordsMeets}
 use Rattle.definition.proofs.Candidate as T
 use Rattle.definition.proofs.Answer as An
 use Rattle.definition.proofs.Answer.Laws as An′
-use Rattle.records.proofs.search_records as callee
-use Rattle.records.proofs.search_records.Symbol as callee-def
-use Rattle.records.proofs.search_records.Symbol.{name as #callee}
-use Rattle.records.proofs.search_records.Met as callee-thm
+use Rattle.search_records.proofs.search_records as callee
+use Rattle.search_records.proofs.search_records.Symbol as callee-def
+use Rattle.search_records.proofs.search_records.Symbol.{name as #callee}
+use Rattle.search_records.proofs.search_records.Met as callee-thm
 use Rattle.fjalgrout.proofs.fjalgrout_records.Key.{name as #own}
 use Rattle.fjalgrout.proofs.fjalgrout_records as own
 use Rattle.fjalgrout.proofs.fjalgrout_records.Statement as stated
@@ -200,4 +200,4 @@ fjalgrout-records-spec 𝓤 H 𝓜 𝓖 𝓡 =
     entered 𝓤 H (tripleOf 𝓤 H (𝓖 .A) own.signature (own.spec 𝓤 H (𝓖 .A) (𝓜 .mem) (𝓡 .run)))
     (tables 𝓤 H 𝓜 𝓡 code.env .C) (tables 𝓤 H 𝓜 𝓡 code.env .Λ) #own code.function (code.unfolded 𝓤 H 𝓜 𝓡)
     (own-meets 𝓤 H (𝓖 .A) (givenOf 𝓤 H 𝓜 𝓖) (𝓜 .mem) (𝓡 .run) (tablesOf 𝓤 H 𝓜 (tables 𝓤 H 𝓜 𝓡 code.env))
-    (cited 𝓤 H (Callee 𝓤 H (𝓖 .A) (𝓜 .mem) (𝓡 .run)) 𝓜 𝓡 code.env #callee callee-def.routine code.calls-records·search-records (callee-thm.met 𝓤 H 𝓜 𝓖 𝓡)))
+    (cited 𝓤 H (Callee 𝓤 H (𝓖 .A) (𝓜 .mem) (𝓡 .run)) 𝓜 𝓡 code.env #callee callee-def.routine code.calls-search-records·search-records (callee-thm.met 𝓤 H 𝓜 𝓖 𝓡)))

@@ -6,8 +6,8 @@ use borrow.Author.Needs.{needs}
 use Rattle.definition.specs.Floats.{nought}
 use Rattle.definition.specs.Outcome.{answer, medoidOut}
 use Rattle.definition.specs.Refusals.{MedoidCall, medoidNumber}
-use Rattle.answer.specs.Numbered.{refused-is, success-is}
-use Rattle.numbers.specs.MedoidNumber.{MedoidAccepted, medoid-accepted}
+use Rattle.answers.specs.Numbered.{refused-is, success-is}
+use Rattle.checks_number.specs.MedoidNumber.{MedoidAccepted, medoid-accepted}
 use Rattle.medoid.proofs.medoid.Statement.{statement}
 use Rattle.medoid.proofs.medoid.Tie as tie
 

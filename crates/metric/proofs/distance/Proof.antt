@@ -8,8 +8,8 @@ use Rattle.metric.proofs.distance.Statement.{statement}
 use Rattle.metric.proofs.distance.Tie as tie
 use Rattle.metric.proofs.distance.Reads as reads
 use Rattle.metric.proofs.distance.Lts as lts
-use Rattle.answer.proofs.measured.Reads as measured-reads
-use Rattle.answer.proofs.refused.Reads as refused-reads
+use Rattle.answers.proofs.measured.Reads as measured-reads
+use Rattle.answers.proofs.refused.Reads as refused-reads
 use Rattle.metric.proofs.summed.Reads as summed-reads
 
 refused-requires : tie.Need-refused-requires

@@ -9,7 +9,7 @@ use borrow.Author.Tests.{not-true, not-false}
 use Rattle.definition.specs.Metric.{vector, fromQuery}
 use Rattle.prune.specs.Says.{shadedFrom}
 use Rattle.prune.proofs.Shading.{exact-between, shade-below, shaded-turn, shaded-skip, shaded-end}
-use Rattle.items.specs.Held.{all-at}
+use Rattle.prune_items.specs.Held.{all-at}
 use Rattle.metric.specs.Exact.{VectorIn, Exact}
 use lib.Ieee.{nan}
 use Rattle.whole.specs.Whole.{IsWhole}

@@ -6,8 +6,8 @@ use native.Mathlib.Omega.{arith}
 use lib.ListN.{length, set, take, length-set}
 use mathlib.Core.List.{_++_}
 use Rattle.definition.specs.Metric.{between}
-use Rattle.items.specs.Items.{itemsOf}
-use Rattle.items.specs.Held.{all-at}
+use Rattle.prune_items.specs.Items.{itemsOf}
+use Rattle.prune_items.specs.Held.{all-at}
 use Rattle.metric.specs.Exact.{VectorIn}
 use Rattle.prune.specs.Says.{roundsOf, shadedFrom}
 use Rattle.definition.specs.Floats.{largest}

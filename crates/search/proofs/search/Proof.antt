@@ -6,14 +6,14 @@ use native.Mathlib.Omega.{arith}
 use lib.ListN.{length, getD, set, take, drop, length-set}
 use borrow.Author.Needs.{needs}
 use Rattle.definition.specs.Refusals.{SearchCall}
-use Rattle.numbers.specs.SearchNumber.{callOf}
+use Rattle.checks_number.specs.SearchNumber.{callOf}
 use Rattle.search.specs.Statement.{beside-accepted, search-refused, search-done}
 use Rattle.search.proofs.search.Statement.{statement}
 use Rattle.search.proofs.search.Tie as tie
 use Rattle.search.proofs.search.Reads as reads
 use Rattle.search.proofs.search.Lts as lts
-use Rattle.answer.proofs.refused.Reads as refused-reads
-use Rattle.numbers.proofs.search_number.Reads as search-number-reads
+use Rattle.answers.proofs.refused.Reads as refused-reads
+use Rattle.checks_number.proofs.search_number.Reads as search-number-reads
 use Rattle.search.proofs.search_accepted.Reads as search-accepted-reads
 
 -- the call

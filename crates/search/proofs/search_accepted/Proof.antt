@@ -6,13 +6,13 @@ use native.Mathlib.Omega.{arith}
 use lib.ListN.{length, getD, set, take, drop, length-set}
 use borrow.Author.Needs.{needs}
 use Rattle.definition.specs.Refusals.{SearchCall}
-use Rattle.numbers.specs.SearchNumber.{callOf}
+use Rattle.checks_number.specs.SearchNumber.{callOf}
 use Rattle.search.proofs.Passing.{front, start-room, start-measures, list-from, list-to, wipe-room, done}
 use Rattle.search.proofs.search_accepted.Statement.{statement}
 use Rattle.search.proofs.search_accepted.Tie as tie
 use Rattle.search.proofs.search_accepted.Reads as reads
 use Rattle.search.proofs.search_accepted.Lts as lts
-use Rattle.answer.proofs.found.Reads as found-reads
+use Rattle.answers.proofs.found.Reads as found-reads
 use Rattle.greedy.proofs.greedy.Reads as greedy-reads
 use Rattle.laws.proofs.clear_words.Reads as clear-words-reads
 use Rattle.laws.proofs.least.Reads as least-reads

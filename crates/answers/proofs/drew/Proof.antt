@@ -1,0 +1,13 @@
+-- `drew` meets its contract: by computation.
+use mathlib.Core.Path.{refl}
+use Rattle.definition.specs.Outcome.{answer}
+use Rattle.definition.specs.Floats.{nought}
+use Rattle.answers.proofs.drew.Statement.{statement}
+use Rattle.answers.proofs.drew.Tie as tie
+
+returns : tie.Need-returns
+unfolding answer nought
+returns c = refl
+
+pub drew-spec : {M : Type 1} → statement M
+drew-spec = tie.close (tie.spec returns)

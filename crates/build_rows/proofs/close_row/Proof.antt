@@ -1,0 +1,89 @@
+-- `close_row`: ids copied, then fitted to the degree.
+use native.Mathlib.Omega.{arith}
+use borrow.Author.Needs.{needs}
+use lib.ListN.{replicate, length-replicate}
+use lib.Ieee.{ofBits, binary32}
+use Rattle.build_rows.proofs.Closing.{lent-few, copied-few, row-asks, row-closed}
+use Rattle.build_rows.proofs.close_row.Statement.{statement}
+use Rattle.build_rows.proofs.close_row.Tie as tie
+
+word-of-requires : tie.Need-word-of-requires
+word-of-requires c κs = search needs
+
+mul-a : tie.Need-mul-a
+mul-a c = search needs
+
+add-e : tie.Need-add-e
+add-e c = search needs
+
+mul-copy-ids : tie.Need-mul-copy-ids
+mul-copy-ids c = search needs
+
+sub-copy-ids : tie.Need-sub-copy-ids
+sub-copy-ids c = search needs
+
+part-copy-ids-start : tie.Need-part-copy-ids-start
+part-copy-ids-start c = search needs
+
+part-copy-ids-end : tie.Need-part-copy-ids-end
+part-copy-ids-end c = search needs
+
+slice-aggregate-copy-ids : tie.Need-slice-aggregate-copy-ids
+slice-aggregate-copy-ids c = search needs
+
+copy-ids-requires : tie.Need-copy-ids-requires
+copy-ids-requires c κs = lent-few _ _ _ _ _ _ _ _ _ (c .before .before .before .before .before .before .before .pre)
+
+sub-fit-row : tie.Need-sub-fit-row
+sub-fit-row c = search needs
+
+part-ids-start : tie.Need-part-ids-start
+part-ids-start c = search needs
+
+part-ids-end : tie.Need-part-ids-end
+part-ids-end c = omega (arith, c .before .before .copy-ids .kept .1 .0, copied-few _ _ _ _ _ _ _ _ _ (c .before .before .before .before .before .before .before .before .before .before .pre) _ (c .before .before .before .before .before .word-of .ensures) _ _ (c .before .before .copy-ids .ensures))
+
+sub-fit-row-2 : tie.Need-sub-fit-row-2
+sub-fit-row-2 c = search needs
+
+part-dists-start : tie.Need-part-dists-start
+part-dists-start c = search needs
+
+part-dists-end : tie.Need-part-dists-end
+part-dists-end c = omega (arith, copied-few _ _ _ _ _ _ _ _ _ (c .before .before .before .before .before .before .before .before .before .before .before .pre) _ (c .before .before .before .before .before .before .word-of .ensures) _ _ (c .before .before .before .copy-ids .ensures))
+
+fit-row-requires : tie.Need-fit-row-requires
+fit-row-requires c κs = row-asks _ _ _ _ _ _ _ _ _ (c .before .before .before .before .before .before .before .before .before .before .before .before .before .pre) _ (c .before .before .before .before .before .before .before .before .word-of .ensures) _ _ (c .before .before .before .before .before .copy-ids .ensures) (replicate 84 (ofBits binary32 0)) (c .before .before .before .before .before .copy-ids .kept .1 .0) (length-replicate 84 (ofBits binary32 0))
+
+same-length : tie.Need-same-length
+same-length c = search needs
+
+same-length-2 : tie.Need-same-length-2
+same-length-2 c = search needs
+
+returns : tie.Need-returns
+returns c = row-closed _ _ _ _ _ _ _ _ _ (c .before .before .before .before .before .before .before .before .before .before .before .before .before .before .before .before .before .before .before .before .pre) _ (c .before .before .before .before .before .before .before .before .before .before .before .before .before .before .before .word-of .ensures) _ _ (c .before .before .before .before .before .before .before .before .before .before .before .before .copy-ids .ensures) _ _ (c .before .before .before .before .before .before .fit-row .ensures)
+
+pub close-row-spec : {M : Type 1} → statement M
+close-row-spec =
+    tie.close
+    (tie.spec
+    word-of-requires
+    mul-a
+    add-e
+    mul-copy-ids
+    sub-copy-ids
+    part-copy-ids-start
+    part-copy-ids-end
+    slice-aggregate-copy-ids
+    copy-ids-requires
+    sub-fit-row
+    part-ids-start
+    part-ids-end
+    sub-fit-row-2
+    part-dists-start
+    part-dists-end
+    fit-row-requires
+    same-length
+    same-length-2
+    returns)
