@@ -24,8 +24,8 @@ pub fn run_batch(
 {
     let a = 4 * n + 256;
     let e = a + n;
-    laws::clear_words(&mut words[0..n]);
-    laws::clear_words(&mut words[a..e]);
+    scratch::clear_words(&mut words[0..n]);
+    scratch::clear_words(&mut words[a..e]);
     batch_fresh::fresh_rows(
         words,
         floats,

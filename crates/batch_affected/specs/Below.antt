@@ -13,18 +13,18 @@ use Rattle.definition.specs.Slack.{slack}
 use Rattle.laws.specs.Listed.{listedAt}
 use Rattle.laws.specs.Members.{keep-mem}
 use Rattle.laws.specs.Rising.{rising-keeps}
-use Rattle.laws.specs.Words.{padding, Row}
+use Rattle.laws.specs.Words.{padding, Searchable}
 use Rattle.batch_chains.specs.Last.{seat}
 use Rattle.batch_chains.specs.Says.{entry}
 use Rattle.batch_ids.specs.Entries.{ids-below, row-part}
 use Rattle.batch_affected.specs.Naming.{baseWords, base-words, words-wide, words-listed, seat-within, naming-to}
 
-module _ (g : Setting) (words wide nodes : List ℕ) (fresh node width n : ℕ) (slack-is : width ≡ slack (g .degree)) (own : Row n (row width wide node)) (real : (p : ℕ) → p < length nodes → getD nodes p 0 < n)
+module _ (g : Setting) (words wide nodes : List ℕ) (fresh node width n : ℕ) (slack-is : width ≡ slack (g .degree)) (own : Searchable n (row width wide node)) (real : (p : ℕ) → p < length nodes → getD nodes p 0 < n)
     (named : (e : ℕ) → e < length nodes * 64 → (entry words fresh e ≡ padding → ⊥) → entry words fresh e < n) where
-  base-row : (s : ℕ) → s ≤ length nodes → Row n (baseWords words wide fresh s node width)
-  base-row zero h = subst (Row n) (sym (words-wide words wide fresh node width)) own
+  base-row : (s : ℕ) → s ≤ length nodes → Searchable n (baseWords words wide fresh s node width)
+  base-row zero h = subst (Searchable n) (sym (words-wide words wide fresh node width)) own
   base-row (suc p) h =
-      subst (Row n) (sym (words-listed words wide fresh node width p))
+      subst (Searchable n) (sym (words-listed words wide fresh node width p))
       (row-part n words 64 (fresh + p * 64)
       (λ k l i q.
       let e : fresh + (p * 64 + k) ≡ fresh + p * 64 + k = omega arith in

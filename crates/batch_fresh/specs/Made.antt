@@ -15,7 +15,7 @@ use Rattle.definition.specs.Outcome.{settingOf}
 use Rattle.laws.specs.Listed.{listedAt}
 use Rattle.laws.specs.Apart.{Apart}
 use Rattle.laws.specs.Parts.{part, Within}
-use Rattle.laws.specs.Words.{Row}
+use Rattle.laws.specs.Words.{Searchable}
 use Rattle.greedy.specs.Scratch.{Room}
 
 -- the vectors, the parameters and the wide rows of a batch that is accepted; width is the slack
@@ -28,7 +28,7 @@ pub record Given (n dim width : ℕ) (params : Params) (vectors wide : List ℕ)
   pub alpha-le : above (params .alpha) four ≡ false
   pub width-is : width ≡ slack (params .degree)
   pub size : length wide ≡ n * width
-  pub rows : Row n wide
+  pub rows : Searchable n wide
 
 -- the scratch between two nodes, of which p are done: no pool mark is above p
 pub record Between (n beam epoch p : ℕ) (words : List ℕ) (floats : List Float) : Type 0 where

@@ -11,7 +11,7 @@ use lib.ListN.{length, getD, take, drop, length-drop}
 use lib.Seq.{getD-take, getD-drop, drop-drop, length-take-le}
 use Rattle.definition.specs.Lists.{each, keep, run, upto, isIn, distinct}
 use Rattle.definition.specs.Tables.{pad, ids, row, idsFirst, buildRow, buildRule}
-use Rattle.laws.specs.Words.{Row}
+use Rattle.laws.specs.Words.{Searchable}
 
 and-last : (a b : Bool) → (a && b) ≡ true → b ≡ true
 and-last true b e = e
@@ -40,7 +40,7 @@ each-ids p (x ∷ l) e (suc k) h n = each-ids p l (rest (eqb x pad) e) k (omega 
     rest false e = and-last (p x) (each p (ids l)) e
 
 -- the rows one after another make up the table
-rows-all : (n width m : ℕ) (t : List ℕ) → length t ≡ m * width → ((i : ℕ) → i < m → Row n (row width t i)) → Row n t
+rows-all : (n width m : ℕ) (t : List ℕ) → length t ≡ m * width → ((i : ℕ) → i < m → Searchable n (row width t i)) → Searchable n t
 unfolding row
 rows-all n width zero t e f k h p = absurd (omega (arith, zero-mul width))
 rows-all n width (suc m) t e f k h p = go (ltb k width) refl (rows-all n width m (drop width t))
@@ -51,10 +51,10 @@ rows-all n width (suc m) t e f k h p = go (ltb k width) refl (rows-all n width m
     tail : (i : ℕ) → row width (drop width t) i ≡ row width t (suc i)
     tail i = ap (take width) (drop-drop (i * width) width t ∙ ap (λ (j : ℕ). drop j t) (add-comm width (i * width) ∙ sym (suc-mul i width)))
 
-    first : Row n (take width t)
-    first = subst (λ (j : ℕ). Row n (take width (drop j t))) (zero-mul width) (f 0 (omega arith))
+    first : Searchable n (take width t)
+    first = subst (λ (j : ℕ). Searchable n (take width (drop j t))) (zero-mul width) (f 0 (omega arith))
 
-    go : (b : Bool) → ltb k width ≡ b → (length (drop width t) ≡ m * width → ((i : ℕ) → i < m → Row n (row width (drop width t) i)) → Row n (drop width t)) → getD t k 0 < n
+    go : (b : Bool) → ltb k width ≡ b → (length (drop width t) ≡ m * width → ((i : ℕ) → i < m → Searchable n (row width (drop width t) i)) → Searchable n (drop width t)) → getD t k 0 < n
     go true q again =
         let l : k < width = ltb-true k width q in
         let g = getD-take width t k 0 l in
@@ -64,9 +64,9 @@ rows-all n width (suc m) t e f k h p = go (ltb k width) refl (rows-all n width m
         let w : width + (k - width) ≡ k = omega arith in
         let g : getD (drop width t) (k - width) 0 ≡ getD t k 0 = getD-drop width t (k - width) 0 ∙ ap (λ (j : ℕ). getD t j 0) w in
         subst (λ (x : ℕ). x < n) g
-        (again (length-drop width t ∙ omega (arith, size)) (λ i j. subst (Row n) (sym (tail i)) (f (suc i) (omega arith))) (k - width) (omega (arith, length-drop width t)) (λ r. p (sym g ∙ r)))
+        (again (length-drop width t ∙ omega (arith, size)) (λ i j. subst (Searchable n) (sym (tail i)) (f (suc i) (omega arith))) (k - width) (omega (arith, length-drop width t)) (λ r. p (sym g ∙ r)))
 
-row-below : (n own : ℕ) (words : List ℕ) → buildRow n own words ≡ true → Row n words
+row-below : (n own : ℕ) (words : List ℕ) → buildRow n own words ≡ true → Searchable n words
 unfolding buildRow pad
 row-below n own words e k h p =
     ltb-true (getD words k 0) n
@@ -75,7 +75,7 @@ row-below n own words e k h p =
     k h p)
 
 -- what refusal 8 leaves of a table is enough for the walks
-pub rule-below : (n width : ℕ) (table : List ℕ) → length table ≡ n * width → buildRule n width table ≡ true → Row n table
+pub rule-below : (n width : ℕ) (table : List ℕ) → length table ≡ n * width → buildRule n width table ≡ true → Searchable n table
 unfolding buildRule upto
 rule-below n width table e r =
     rows-all n width n table e (λ i h.

@@ -11,7 +11,7 @@ use Rattle.definition.specs.Batch.{merged}
 use Rattle.definition.specs.Outcome.{settingOf}
 use Rattle.laws.specs.Listed.{listedAt}
 use Rattle.laws.specs.Parts.{part, Within, part-length, put-within, within-wider}
-use Rattle.laws.specs.Words.{Row}
+use Rattle.laws.specs.Words.{Searchable}
 use Rattle.prune_fit.specs.Given.{Given}
 use Rattle.batch_merge.specs.Layout.{linksEnd, freshAt, factorsAt, factorsEnd}
 use Rattle.batch_merge.specs.Says.{Gatherable, AllLinked, MergeReady, Merged}
@@ -20,7 +20,7 @@ module _ (n dim : ℕ) (vectors : List ℕ) (p : Params) (width : ℕ) (nodes wi
   reach : factorsAt n + 750 ≤ length floats₀
   reach = let f = r .room in omega arith
 
-  pub rows-asks : ((length wide₀ ≡ n * width) × (750 ≤ length (part (factorsAt n) (factorsAt n + 750) floats₀))) × (Given n dim vectors p width × (Gatherable words nodes n × Row n wide₀))
+  pub rows-asks : ((length wide₀ ≡ n * width) × (750 ≤ length (part (factorsAt n) (factorsAt n + 750) floats₀))) × (Given n dim vectors p width × (Gatherable words nodes n × Searchable n wide₀))
   rows-asks =
       let s = part-length (factorsAt n) (factorsAt n + 750) floats₀ reach in
       ((r .table, omega arith), (r .given, (l .gatherable, r .ids)))

@@ -10,7 +10,7 @@ use Rattle.definition.specs.Tables.{row}
 use Rattle.definition.specs.Batch.{mergedIds, fitted}
 use Rattle.definition.specs.Outcome.{settingOf}
 use Rattle.laws.specs.Listed.{listedAt}
-use Rattle.laws.specs.Words.{Row}
+use Rattle.laws.specs.Words.{Searchable}
 use Rattle.metric.specs.Exact.{VectorIn}
 use Rattle.prune_pool.specs.Says.{Distinct}
 use Rattle.prune_pool.specs.Free.{asc-distinct}
@@ -22,7 +22,7 @@ use Rattle.batch_merge.specs.Layout.{linksAt, freshAt}
 use Rattle.batch_merge.specs.Says.{Gatherable, RowMerged, mergedTo}
 
 module _ (n dim : ℕ) (vectors : List ℕ) (p : Params) (width : ℕ) (nodes words wide : List ℕ) (i : ℕ) (g : Given n dim vectors p width) (r : Gatherable words nodes n) (h : i < n) (has : i * width + width ≤ length wide)
-    (own : Row n (row width wide i)) (node : ℕ) (is : node ≡ i) where
+    (own : Searchable n (row width wide i)) (node : ℕ) (is : node ≡ i) where
   here-too : node * width + width ≤ length wide
   here-too = subst (λ (k : ℕ). k * width + width ≤ length wide) (sym is) has
 

@@ -12,7 +12,7 @@ use Rattle.definition.specs.Batch.{Setting, wideRow, affected, mergedIds, fitte
 use Rattle.definition.specs.Outcome.{settingOf}
 use Rattle.laws.specs.Listed.{listedAt}
 use Rattle.laws.specs.Tables.{row-fits}
-use Rattle.laws.specs.Words.{Row}
+use Rattle.laws.specs.Words.{Searchable}
 use Rattle.batch_affected.specs.Affected.{merged-alone}
 use Rattle.batch_ids.specs.Entries.{row-ids}
 use Rattle.prune_fit.specs.Fits.{fitted-slack, fitted-few}
@@ -29,8 +29,8 @@ module _ (n dim : ℕ) (vectors : List ℕ) (p : Params) (width : ℕ) (nodes wo
   pub turn-fits : i * width + width ≤ length wide
   turn-fits = subst (λ (k : ℕ). i * width + width ≤ k) (sym (w .size)) (row-fits i n width h)
 
-  pub turn-row : Row n wide₀ → Row n (row width wide i)
-  turn-row r = let q : i ≤ i = omega arith in subst (Row n) (sym (w .later i q)) (row-ids n width i wide₀ r)
+  pub turn-row : Searchable n wide₀ → Searchable n (row width wide i)
+  turn-row r = let q : i ≤ i = omega arith in subst (Searchable n) (sym (w .later i q)) (row-ids n width i wide₀ r)
 
   untouched : wideRow (settingOf n dim vectors p) wide i ≡ wideRow (settingOf n dim vectors p) wide₀ i
   unfolding wideRow settingOf

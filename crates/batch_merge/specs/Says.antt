@@ -9,7 +9,7 @@ use Rattle.definition.specs.Batch.{mergedIds, fitted, merged}
 use Rattle.definition.specs.Outcome.{settingOf}
 use Rattle.laws.specs.Listed.{listedAt}
 use Rattle.laws.specs.Parts.{Within}
-use Rattle.laws.specs.Words.{padding, Row}
+use Rattle.laws.specs.Words.{padding, Searchable}
 use Rattle.prune.specs.Says.{Stretched}
 use Rattle.batch_chains.specs.Says.{entry, Once}
 use Rattle.batch_affected.specs.Says.{Ready}
@@ -51,7 +51,7 @@ pub record MergeReady (n dim : ℕ) (vectors : List ℕ) (p : Params) (width : �
   pub given : Given n dim vectors p width
   pub unlinked : Unlinked words nodes n
   pub table : length wide ≡ n * width
-  pub ids : Row n wide
+  pub ids : Searchable n wide
   pub room : factorsEnd n ≤ length floats
 
 -- the wide table is the definition's; fresh rows and all else outside the merge's own room stay

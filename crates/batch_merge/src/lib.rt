@@ -6,7 +6,7 @@ ghost use lib.ListN.{length, getD, drop};
 ghost use Rattle.definition.specs.Batch.{affected, merged};
 ghost use Rattle.definition.specs.Outcome.{settingOf};
 ghost use Rattle.definition.specs.Tables.{row};
-ghost use Rattle.laws.specs.Words.{Row};
+ghost use Rattle.laws.specs.Words.{Searchable};
 ghost use Rattle.laws.specs.Listed.{listedAt};
 ghost use Rattle.prune_fit.specs.Given.{Given};
 ghost use Rattle.batch_merge.specs.Layout.{freshAt};
@@ -21,7 +21,7 @@ fn link(words: &mut [u32], n: usize, nodes: &[u32])
     let links = 2 * n;
     let fresh = 6 * n + 16384;
     let entries = nodes.len() * 64;
-    laws::clear_words(&mut words[0..links]);
+    scratch::clear_words(&mut words[0..links]);
     batch_chains::link_entries(words, n, links, fresh, entries);
     batch_chains::seat_nodes(nodes, &mut words[n..links]);
 }
@@ -55,7 +55,7 @@ fn merge_row(
     requires { ⌜ (i < n) × (i * slack + slack ≤ length (now wide)) × (750 ≤ length (now factors)) ⌝ }
     requires { ⌜ Given n dim (now vectors) params slack ⌝ }
     requires { ⌜ Gatherable (now words) (now nodes) n ⌝ }
-    requires { ⌜ Row n (row slack (now wide) i) ⌝ }
+    requires { ⌜ Searchable n (row slack (now wide) i) ⌝ }
     ensures { λ _. ⌜ RowMerged n dim (now (vectors .entry)) params slack (now (words .entry)) (now (nodes .entry)) i (now (wide .entry)) (now (wide .exit)) ⌝ }
 {
     let mut ids = [0u32; 340];
@@ -103,7 +103,7 @@ fn merge_rows(
     requires { ⌜ (length (now wide) ≡ n * slack) × (750 ≤ length (now factors)) ⌝ }
     requires { ⌜ Given n dim (now vectors) params slack ⌝ }
     requires { ⌜ Gatherable (now words) (now nodes) n ⌝ }
-    requires { ⌜ Row n (now wide) ⌝ }
+    requires { ⌜ Searchable n (now wide) ⌝ }
     ensures { λ _. ⌜ now (wide .exit) ≡ merged (settingOf n dim (now (vectors .entry)) params) (now (wide .entry)) (listedAt (now (nodes .entry)) (drop (freshAt n) (now (words .entry)))) ⌝ }
 {
     let mut i = 0;

@@ -13,7 +13,7 @@ use Rattle.definition.specs.Lists.{joined}
 use Rattle.definition.specs.Greedy.{greedy}
 use Rattle.definition.specs.Tables.{row, ids}
 use Rattle.laws.specs.Parts.{part, part-at, within-above, within-wider, within-trans, within-none}
-use Rattle.laws.specs.Words.{padding, Row}
+use Rattle.laws.specs.Words.{padding, Searchable}
 use Rattle.greedy.specs.Scratch.{Walks}
 use Rattle.batch_pool.specs.Pooled.{Added}
 use Rattle.batch_pool.specs.Regions.{poolOf, distsOf, seenOf, Seen, Filled, Holding, Grown, visits, pooledIds}
@@ -22,7 +22,7 @@ use Rattle.batch_pool.proofs.Lending.{words-lent, floats-lent, added-le
 use Rattle.batch_pool.proofs.Visits.{seen-known, seen-visits}
 
 -- ---- a walk, and what it visited
-module _ (n width beam : ℕ) (table : List ℕ) (d : ℕ → ℕ) (start : ℕ) (low : start < n) (rule : Row n table) (epoch : ℕ) (words₀ words : List ℕ) (floats₀ floats : List Float) (e v w : ℕ)
+module _ (n width beam : ℕ) (table : List ℕ) (d : ℕ → ℕ) (start : ℕ) (low : start < n) (rule : Searchable n table) (epoch : ℕ) (words₀ words : List ℕ) (floats₀ floats : List Float) (e v w : ℕ)
     (k : Walks n epoch beam words₀ floats₀ words floats e v w (greedy d (row width table) n beam start)) where
   -- the walk leaves the pool alone
   pub pool-kept : poolOf n words ≡ poolOf n words₀
@@ -107,7 +107,7 @@ unfolding joined
 joined-none f = refl
 
 -- ---- the node's own row, as a part of the wide table lends it
-pub row-rule : (n width : ℕ) (wide : List ℕ) (node : ℕ) → Row n wide → Row n (part (node * width) (node * width + width) wide)
+pub row-rule : (n width : ℕ) (wide : List ℕ) (node : ℕ) → Searchable n wide → Searchable n (part (node * width) (node * width + width) wide)
 row-rule n width wide node r k h =
     let l : length (part (node * width) (node * width + width) wide) ≤ node * width + width - node * width = omega (arith, length-take ((node * width + width) - node * width) (drop (node * width) wide)) in
     let m : length (part (node * width) (node * width + width) wide) ≤ length wide - node * width = omega (arith, length-take ((node * width + width) - node * width) (drop (node * width) wide), length-drop (node * width) wide) in

@@ -17,7 +17,7 @@ use Rattle.definition.specs.Beam.{Item, item, nobody, best}
 use Rattle.definition.specs.Greedy.{State, visitedIds, begin, meet, skipped, look, expand, popped, step, stops, steps, greedy}
 use Rattle.laws.specs.Truth.{either}
 use Rattle.laws.specs.Parts.{part, part-at, part-length}
-use Rattle.laws.specs.Words.{padding, Row}
+use Rattle.laws.specs.Words.{padding, Searchable}
 use Rattle.prune_items.specs.Items.{All}
 use Rattle.prune_items.specs.Held.{all-at, all-append, all-take, all-drop}
 use Rattle.greedy.specs.Scratch.{Walks}
@@ -64,14 +64,14 @@ at-map f (x ∷ xs) (suc k) e h = at-map f xs k e (omega arith)
 abbrev Known : ℕ → (ℕ → ℕ) → Item → Type 0
 Known n d c = (c .id < n) × (c .dist ≡ d (c .id))
 
-rows-known : (n width : ℕ) (table : List ℕ) (d : ℕ → ℕ) → Row n table → (i : ℕ) → All (λ (w : ℕ). ¬ (w ≡ pad) → Known n d (item (d w) w)) (row width table i)
+rows-known : (n width : ℕ) (table : List ℕ) (d : ℕ → ℕ) → Searchable n table → (i : ℕ) → All (λ (w : ℕ). ¬ (w ≡ pad) → Known n d (item (d w) w)) (row width table i)
 unfolding row pad
 rows-known n width table d r i =
     all-take (λ (w : ℕ). ¬ (w ≡ padding) → Known n d (item (d w) w)) width (drop (i * width) table)
     (all-drop (λ (w : ℕ). ¬ (w ≡ padding) → Known n d (item (d w) w)) (i * width) table
     (all-of (λ (w : ℕ). ¬ (w ≡ padding) → Known n d (item (d w) w)) table (λ k h q. (r k h q, refl))))
 
-module _ (n width beam : ℕ) (table : List ℕ) (d : ℕ → ℕ) (start : ℕ) (low : start < n) (rule : Row n table) where
+module _ (n width beam : ℕ) (table : List ℕ) (d : ℕ → ℕ) (start : ℕ) (low : start < n) (rule : Searchable n table) where
   visited-known : All (λ (c : Item). (c .id < n) × (c .dist ≡ d (c .id))) (greedy d (row width table) n beam start .visited)
   visited-known = greedy-all (λ (c : Item). (c .id < n) × (c .dist ≡ d (c .id))) d beam (row width table) (rows-known n width table d rule) n start (low, refl)
 

@@ -11,7 +11,7 @@ use Rattle.definition.specs.Metric.{whole}
 use Rattle.definition.specs.Greedy.{greedy, visitedIds}
 use Rattle.definition.specs.Tables.{row, ids}
 use Rattle.laws.specs.Parts.{part, Within}
-use Rattle.laws.specs.Words.{Row}
+use Rattle.laws.specs.Words.{Searchable}
 use Rattle.greedy.specs.Scratch.{Measures, Room}
 use Rattle.batch_pool.specs.Pooled.{Pooled, Added}
 
@@ -45,7 +45,7 @@ pub record Ground (n dim width : ℕ) (vectors query wide : List ℕ) : Type 0 w
   pub measures : Measures n dim vectors query
   pub size : length wide ≡ n * width
   pub narrow : width ≤ 128
-  pub rows : Row n wide
+  pub rows : Searchable n wide
 
 -- the scratch with len ids in the pool, as the next walk may find it
 pub record Holding (n epoch beam stamp len : ℕ) (words : List ℕ) (floats : List Float) : Type 0 where

@@ -8,7 +8,7 @@ ghost use lib.ListN.{length};
 ghost use Rattle.definition.specs.Metric.{whole, fromQuery};
 ghost use Rattle.definition.specs.Lists.{joined};
 ghost use Rattle.definition.specs.Tables.{row, ids};
-ghost use Rattle.laws.specs.Words.{Row};
+ghost use Rattle.laws.specs.Words.{Searchable};
 ghost use Rattle.greedy.specs.Scratch.{Measures};
 ghost use Rattle.batch_pool.specs.Pooled.{Pooled, Added};
 ghost use Rattle.batch_pool.specs.Regions.{poolOf, SeenBelow, Filled, Ground, Holding, Grown, Below, visits, pooledIds};
@@ -52,7 +52,7 @@ fn add_row(
     requires { ⌜ Pooled n stamp 0 (now pool) ⌝ }
     requires { ⌜ (n ≤ 65536) × (n ≤ length (now dists)) ⌝ }
     requires { ⌜ Measures n dim (now vectors) (now query) ⌝ }
-    requires { ⌜ Row n (now row) ⌝ }
+    requires { ⌜ Searchable n (now row) ⌝ }
     ensures { λ r. ⌜ Added n stamp (now (pool .entry)) (now (dists .entry)) 0 (now (pool .exit)) (now (dists .exit)) r (ids (now (row .entry))) (λ d. d ≡ fromQuery dim (now (vectors .entry)) (now (query .entry))) ⌝ }
 {
     let mut len = 0;

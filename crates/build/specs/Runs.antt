@@ -20,7 +20,7 @@ use Rattle.definition.specs.Build.{batchSize, batches}
 use Rattle.definition.specs.Outcome.{settingOf}
 use Rattle.laws.specs.Members.{take-mem, drop-mem, mem-at}
 use Rattle.laws.specs.Parts.{Within, within-trans, within-none}
-use Rattle.laws.specs.Words.{Row}
+use Rattle.laws.specs.Words.{Searchable}
 use Rattle.promises.specs.Kept.{TableKept}
 use Rattle.promises.specs.Rule.{kept-entry}
 use Rattle.promises.specs.Runs.{batches-same}
@@ -145,7 +145,7 @@ module _ (n dim : ℕ) (vectors : List ℕ) (p : Params) (width start : ℕ) (or
       run-in : (xs : List ℕ) (a b : ℕ) → Entries n xs → (k : ℕ) → k < length (take b (drop a xs)) → getD (take b (drop a xs)) k 0 < n
       run-in xs a b f k l = f (getD (take b (drop a xs)) k 0) (drop-mem a xs (take-mem b (drop a xs) (mem-at (take b (drop a xs)) k l)))
 
-      words-are : Row n wide
+      words-are : Searchable n wide
       unfolding pad
       words-are i l q = kept-entry n (slack (p .degree)) wide (s .kept) (getD wide i 0) (mem-at wide i l) q
 

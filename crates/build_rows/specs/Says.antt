@@ -10,7 +10,7 @@ use Rattle.definition.specs.Slack.{slack}
 use Rattle.definition.specs.Batch.{wideIds}
 use Rattle.definition.specs.Build.{closedIds}
 use Rattle.definition.specs.Outcome.{settingOf}
-use Rattle.laws.specs.Words.{Row}
+use Rattle.laws.specs.Words.{Searchable}
 use Rattle.checks_number.specs.Fit.{Ruled}
 use Rattle.prune.specs.Says.{Stretched}
 use Rattle.prune_fit.specs.Given.{Given}
@@ -35,7 +35,7 @@ pub record RowCloses (n dim : ℕ) (vectors : List ℕ) (p : Params) (width i : 
   pub has : i * width + width ≤ length wide
   pub to : i * p .degree + p .degree ≤ size
   pub rule : buildRow n i (row width wide i) ≡ true
-  pub words : Row n (row width wide i)
+  pub words : Searchable n (row width wide i)
   pub factors : 750 ≤ room
 
 -- only row i of the closed table differs

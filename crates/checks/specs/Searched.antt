@@ -10,7 +10,7 @@ use lib.ListN.{length}
 use Rattle.definition.specs.Lists.{each}
 use Rattle.definition.specs.Tables.{pad, searchRule}
 use Rattle.definition.specs.Refusals.{badLength, badSearched}
-use Rattle.laws.specs.Words.{padding, Row}
+use Rattle.laws.specs.Words.{padding, Searchable}
 use Rattle.laws.specs.Truth.{and-both, or-neither}
 use Rattle.checks.specs.Bools.{not-false}
 use Rattle.checks.specs.Lengths.{wrongLength}
@@ -24,7 +24,7 @@ pub searched-rule : (n degree : ℕ) (table : List ℕ) → wrongLength n degree
 unfolding badSearched badLength wrongLength
 searched-rule n degree table e = rw e refl
 
-pub rule-words : (n : ℕ) (words : List ℕ) → searchRule n words ≡ true → Row n words
+pub rule-words : (n : ℕ) (words : List ℕ) → searchRule n words ≡ true → Searchable n words
 unfolding searchRule each pad
 rule-words n [] e k h p = absurd (omega arith)
 rule-words n (x ∷ xs) e zero h p = go (eqb x padding) refl (and-both (eqb x padding || ltb x n) _ e .0)
@@ -34,7 +34,7 @@ rule-words n (x ∷ xs) e zero h p = go (eqb x padding) refl (and-both (eqb x pa
     go false q f = ltb-true x n f
 rule-words n (x ∷ xs) e (suc k) h p = rule-words n xs (and-both (eqb x padding || ltb x n) _ e .1) k (omega arith) p
 
-pub searched-good : (n degree : ℕ) (table : List ℕ) → badSearched n degree table ≡ false → (length table ≡ n * degree) × Row n table
+pub searched-good : (n degree : ℕ) (table : List ℕ) → badSearched n degree table ≡ false → (length table ≡ n * degree) × Searchable n table
 unfolding badSearched
 searched-good n degree table e =
     let s = or-neither (badLength n degree table) (not (searchRule n table)) e in

@@ -16,7 +16,7 @@ use Rattle.definition.specs.Refusals.{badDim, badVectors, badDegree, badExtra, 
 use Rattle.laws.specs.Truth.{and-both, or-neither}
 use Rattle.laws.specs.Members.{each-run}
 use Rattle.laws.specs.Tables.{row-fits}
-use Rattle.laws.specs.Words.{padding, Row}
+use Rattle.laws.specs.Words.{padding, Searchable}
 use Rattle.checks.specs.Bools.{not-false}
 use Rattle.checks.specs.Good.{dim-good, vectors-good, degree-good, extra-good, length-good}
 use Rattle.checks.specs.Searched.{rule-words}
@@ -51,7 +51,7 @@ degree-fit degree e = let d = degree-good degree e in record { some = d .0; few 
 
 module _ (n width : ℕ) (table : List ℕ) (size : length table ≡ n * width) (rule : buildRule n width table ≡ true) where
   -- the words of row i
-  row-words : (i : ℕ) → i < n → Row n (row width table i)
+  row-words : (i : ℕ) → i < n → Searchable n (row width table i)
   unfolding buildRule upto buildRow allBelow
   row-words i h =
       let t = each-run (λ k. buildRow n k (row width table k)) 0 n i rule zero-le (omega arith) in
@@ -69,7 +69,7 @@ module _ (n width : ℕ) (table : List ℕ) (size : length table ≡ n * width) 
       getD-take width (drop (i * width) table) j 0 l ∙ getD-drop (i * width) table j 0 in
       subst (λ (w : ℕ). w < n) here (row-words i h j (omega arith) (λ e. p (sym here ∙ e)))
 
-  pub table-words : 1 ≤ width → Row n table
+  pub table-words : 1 ≤ width → Searchable n table
   table-words some k h p =
       let e : k / width * width + k % width ≡ k = div-add-mod' k width in
       let l : k % width < width = mod-lt k some in
@@ -82,7 +82,7 @@ module _ (n width : ℕ) (table : List ℕ) (size : length table ≡ n * width) 
 pub record Ruled (n width : ℕ) (table : List ℕ) : Type 0 where
   pub size : length table ≡ n * width
   pub rule : buildRule n width table ≡ true
-  pub words : Row n table
+  pub words : Searchable n table
 
 pub ruled : (n width : ℕ) (table : List ℕ) → 1 ≤ width → badTable n width table ≡ false → Ruled n width table
 unfolding badTable

@@ -11,7 +11,7 @@ use lib.ListN.{length}
 use Rattle.definition.specs.declared.Candidate.{Candidate}
 use Rattle.definition.specs.Refusals.{SearchCall, badDegree, badBeam, badStart, badSearched, short, mostAnswers, searchShort}
 use Rattle.definition.specs.Refusals.{searchNumberAt, searchNumber, recordsNumber}
-use Rattle.laws.specs.Words.{Row}
+use Rattle.laws.specs.Words.{Searchable}
 use Rattle.checks.specs.Bools.{not-false}
 use Rattle.checks.specs.Lengths.{searchShortBy}
 use Rattle.checks.specs.Good.{dim-good, vectors-good, degree-good, beam-good, start-good, search-room}
@@ -101,7 +101,7 @@ pub record Accepted (c : SearchCall) : Type 0 where
   pub beam-few : c .beam ≤ 256
   pub start-in : c .start < c .n
   pub table-is : length (c .table) ≡ c .n * c .degree
-  pub rows : Row (c .n) (c .table)
+  pub rows : Searchable (c .n) (c .table)
   pub word-room : 2 * c .n + 256 ≤ length (c .words)
   pub float-room : c .n + 256 ≤ length (c .floats)
   pub id-room : mostAnswers (c .beam) (c .k) ≤ length (c .ids)

@@ -14,16 +14,16 @@ unfoldable pub measured : (ℕ → ℕ) → List ℕ → List Item
 measured d xs = map (λ i. item (d i) i) xs
 
 -- without the node itself and repeats; `seen` holds the node and the ids before
-unfoldable pub fresh : List ℕ → List Item → List Item
-fresh seen [] = []
-fresh seen (c ∷ cs) = let a = fresh seen cs in let b = c ∷ fresh (c .id ∷ seen) cs in cond (isIn (c .id) seen) a b
+unfoldable pub unseen : List ℕ → List Item → List Item
+unseen seen [] = []
+unseen seen (c ∷ cs) = let a = unseen seen cs in let b = c ∷ unseen (c .id ∷ seen) cs in cond (isIn (c .id) seen) a b
 
 unfoldable pub cut : ℕ
 cut = 750
 
 -- sort by distance, then id; cut at 750; only then drop the node itself and repeats
 unfoldable pub candidates : ℕ → List Item → List Item
-candidates node pool = fresh (node ∷ []) (take cut (sort nearer pool))
+candidates node pool = unseen (node ∷ []) (take cut (sort nearer pool))
 
 -- target = max(alpha, 1), where NaN acts as 1; increment = min(target, 1.2)
 unfoldable pub targetOf : Float → Float

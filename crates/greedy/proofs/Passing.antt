@@ -8,7 +8,7 @@ use lib.ListN.{length, getD, set, take, drop, length-map, length-set}
 use lib.Seq.{take-suc, drop-cons, set-at, getD-at, getD-take, length-take-le}
 use Rattle.definition.specs.Beam.{Item, item}
 use Rattle.beam.specs.ListLaws.{map-at}
-use Rattle.greedy.specs.Kept.{Kept, code, codes, fresh, Closed}
+use Rattle.greedy.specs.Kept.{Kept, code, codes, opening, Closed}
 use Rattle.greedy.specs.Coding.{code-closed, length-codes}
 use Rattle.greedy.specs.Cases.{map-more}
 use Rattle.greedy.specs.Scratch.{Next}
@@ -27,7 +27,7 @@ none-passed work w done h = record { from = omega arith; to = h; walked = λ ks 
 even-closed : (ks : List Kept) (work : List ℕ) (w i : ℕ) → w ≤ length work → i < w → getD work i 0 % 2 ≡ 0
     → take w work ≡ map (λ (c : Item). c .id) (codes ks) → Closed (drop (suc i) ks) → Closed (drop i ks)
 even-closed ks work w i room h even is rest =
-    let none : Kept = fresh (item 0 0) in
+    let none : Kept = opening (item 0 0) in
     let count : length ks ≡ w = sym (length-map (codes ks) (λ (c : Item). c .id) ∙ length-codes ks) ∙ sym (ap length is) ∙ length-take-le w work room in
     let at : getD work i 0 ≡ code (getD ks i none) .id =
     sym (getD-take w work i 0 h) ∙ ap (λ (z : List ℕ). getD z i 0) is

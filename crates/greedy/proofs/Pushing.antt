@@ -15,13 +15,13 @@ use Rattle.laws.specs.Parts.{part, within-none, put-within, put-part}
 use Rattle.beam.specs.Held.{Holds, Stands, Capped}
 use Rattle.beam.specs.Order.{length-insert}
 use Rattle.beam.specs.Reading.{worst-test}
-use Rattle.greedy.specs.Kept.{Kept, code, codes, items, fresh}
+use Rattle.greedy.specs.Kept.{Kept, code, codes, items, opening}
 use Rattle.greedy.specs.Coding.{length-codes, length-items, closed-tail}
 use Rattle.greedy.specs.Keeping.{Entered, entered}
 use Rattle.greedy.specs.Scratch.{admitsF, Works, Working, Pushed, Come, Met, meets}
 use Rattle.greedy.specs.Cases.{admitted-is, meet-frontier, meet-work, meets-one}
 
-stands-code : (x : Item) (id : ℕ) (dist : Float) → Stands x id dist → Stands (code (fresh x)) (2 * id + 1) dist
+stands-code : (x : Item) (id : ℕ) (dist : Float) → Stands x id dist → Stands (code (opening x)) (2 * id + 1) dist
 unfolding code
 stands-code x id dist s = record { id-is = ap (λ (i : ℕ). 2 * i + 1) (s .id-is); dist-is = s .dist-is; near = s .near }
 
@@ -42,11 +42,11 @@ module _ (n beam w id : ℕ) (dist : Float) (ids₀ : List ℕ) (dists₀ : List
         done-le = omega (arith, c .near-after);
         walked =
             closed-tail (k .kept) (e .kept) w r near done (sym (length-codes (k .kept)) ∙ k .held .count) (sym (length-codes (e .kept)) ∙ held .count) (c .near-before) (c .near-after) (k .done-le)
-            (ap (drop (r - near)) (sym (e .codes-are)) ∙ c .behind (code (fresh x)) (codes (k .kept)) sc (k .held)) (k .walked) (min near done) (omega arith) (omega arith);
+            (ap (drop (r - near)) (sym (e .codes-are)) ∙ c .behind (code (opening x)) (codes (k .kept)) sc (k .held)) (k .walked) (min near done) (omega arith) (omega arith);
         inside = e .inside (k .inside) (omega (arith, sx .id-is));
       }
     where
-      sc : Stands (code (fresh x)) (2 * id + 1) dist
+      sc : Stands (code (opening x)) (2 * id + 1) dist
       sc = stands-code x id dist sx
 
       e : Entered beam x (k .kept) frontier n
@@ -55,7 +55,7 @@ module _ (n beam w id : ℕ) (dist : Float) (ids₀ : List ℕ) (dists₀ : List
           (ap (λ (l : List Item). ltb (length l) beam || beatsWorst x l) (sym (k .work-is)) ∙ admit)
 
       held : Holds ids dists r (codes (e .kept))
-      held = subst (λ (l : List Item). Holds ids dists r l) (e .codes-are) (c .holds (code (fresh x)) (codes (k .kept)) sc (k .held))
+      held = subst (λ (l : List Item). Holds ids dists r l) (e .codes-are) (c .holds (code (opening x)) (codes (k .kept)) sc (k .held))
 
 -- ---- the end of `push`
 module _ (n beam w id : ℕ) (dist : Float) (words₀ : List ℕ) (floats₀ : List Float) (wr : 2 * n + 256 ≤ length words₀) (fr : n + 256 ≤ length floats₀) (fits : w ≤ beam) (below : id < n) where

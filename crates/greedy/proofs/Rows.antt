@@ -7,7 +7,7 @@ use native.Mathlib.Omega.{arith}
 use lib.ListN.{length, getD}
 use Rattle.definition.specs.Tables.{row}
 use Rattle.laws.specs.Parts.{part, part-length, part-at}
-use Rattle.laws.specs.Words.{Row}
+use Rattle.laws.specs.Words.{Searchable}
 
 pub row-room : (id n width : ℕ) → id < n → n ≤ 65536 → width ≤ 128 → (id * width + width ≤ n * width) × (n * width ≤ 8388608)
 row-room id n width h k l =
@@ -15,7 +15,7 @@ row-room id n width h k l =
     let b : n * width ≤ 65536 * 128 = mul-le-mul k l in
     (a, b)
 
-pub row-part : (n : ℕ) (table : List ℕ) (a e : ℕ) → e ≤ length table → Row n table → Row n (part a e table)
+pub row-part : (n : ℕ) (table : List ℕ) (a e : ℕ) → e ≤ length table → Searchable n table → Searchable n (part a e table)
 row-part n table a e h r k l p =
     let q : k < e - a = omega (arith, part-length a e table h) in
     let at : getD (part a e table) k 0 ≡ getD table (a + k) 0 = part-at a e table k 0 q in

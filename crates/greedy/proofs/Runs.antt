@@ -19,7 +19,7 @@ use Rattle.beam.specs.ListLaws.{map-at}
 use Rattle.beam.specs.Order.{all-at}
 use Rattle.beam.specs.Reading.{id-at, dist-at, worst-test}
 use Rattle.marks.specs.Visits.{marked-most, marked-kept, seen-kept}
-use Rattle.greedy.specs.Kept.{Kept, code, codes, items, fresh, close, Closed, Inside, Beyond}
+use Rattle.greedy.specs.Kept.{Kept, code, codes, items, opening, close, Closed, Inside, Beyond}
 use Rattle.greedy.specs.Coding.{code-open, length-codes, length-items, dists-same, small-codes}
 use Rattle.greedy.specs.Keeping.{opens-closed, Popped, popped as popped-at}
 use Rattle.greedy.specs.Scratch.{haltsF, Ready, Works, Is, Live, Moves, Next}
@@ -31,7 +31,7 @@ map-set g [] i x = refl
 map-set g (y ∷ ys) zero x = refl
 map-set {A} {B} g (y ∷ ys) (suc i) x = ap (λ (z : List B). g y ∷ z) (map-set g ys i x)
 
-inside-at : (n : ℕ) (ks : List Kept) → Inside n ks → (i : ℕ) → i < length ks → getD ks i (fresh nobody) .of .id < n
+inside-at : (n : ℕ) (ks : List Kept) → Inside n ks → (i : ℕ) → i < length ks → getD ks i (opening nobody) .of .id < n
 inside-at n [] a i h = absurd (omega arith)
 inside-at n (k ∷ ks) a zero h = a .0
 inside-at n (k ∷ ks) a (suc i) h = inside-at n ks (a .1) i (omega arith)
@@ -44,20 +44,20 @@ far-fills beam x (w ∷ ws) b = rw (le-leb beam (length (w ∷ ws)) (b .1 .0), l
 -- the code's test of an item against the worst
 near-test : (ids : List ℕ) (dists : List Float) (w beam i : ℕ) (ks : List Kept) → Holds ids dists w (codes ks) → i < w
     → (leb beam w && not (lt (getD dists i nan) (getD dists 0 nan)))
-    ≡ (leb beam (length (items ks)) && (ltb 0 (length (items ks)) && not (beatsWorst (getD ks i (fresh nobody) .of) (items ks))))
+    ≡ (leb beam (length (items ks)) && (ltb 0 (length (items ks)) && not (beatsWorst (getD ks i (opening nobody) .of) (items ks))))
 unfolding beatsWorst code
 near-test ids dists w beam i [] h l = absurd (omega (arith, h .count))
 near-test ids dists w beam i (k ∷ ks) h l =
     let size : length (items (k ∷ ks)) ≡ w = length-items (k ∷ ks) ∙ sym (length-codes (k ∷ ks)) ∙ h .count in
     let fits : i < length (codes (k ∷ ks)) = omega (arith, h .count) in
-    let at : getD (codes (k ∷ ks)) i nobody ≡ code (getD (k ∷ ks) i (fresh nobody)) = map-at code (fresh nobody) nobody (k ∷ ks) i (omega (arith, length-codes (k ∷ ks))) in
+    let at : getD (codes (k ∷ ks)) i nobody ≡ code (getD (k ∷ ks) i (opening nobody)) = map-at code (opening nobody) nobody (k ∷ ks) i (omega (arith, length-codes (k ∷ ks))) in
     let stands : Stands (getD (codes (k ∷ ks)) i nobody) (getD ids i 0) (getD dists i nan) =
     record {
       id-is = id-at ids dists w (codes (k ∷ ks)) h nobody i l;
       dist-is = dist-at ids dists w (codes (k ∷ ks)) h nobody i l;
       near = all-at Small nobody (codes (k ∷ ks)) (h .small) i fits;
     } in
-    let test : lt (getD dists i nan) (getD dists 0 nan) ≡ ltb (getD (k ∷ ks) i (fresh nobody) .of .dist) (k .of .dist) =
+    let test : lt (getD dists i nan) (getD dists 0 nan) ≡ ltb (getD (k ∷ ks) i (opening nobody) .of .dist) (k .of .dist) =
     worst-test ids dists w (getD ids i 0) (getD dists i nan) (getD (codes (k ∷ ks)) i nobody) (code k) (codes ks) h stands
     ∙ ap (λ (z : Item). ltb (z .dist) (k .of .dist)) at in
     rw (test, size, lt-ltb 0 w (omega arith)) refl
@@ -93,12 +93,12 @@ module _ (n beam : ℕ) (ids : List ℕ) (dists : List Float) (f w done : ℕ) (
     i = w - 1 - d
 
     abbrev x : Kept
-    x = getD (k .kept) i (fresh nobody)
+    x = getD (k .kept) i (opening nobody)
 
     code-at : getD ids i 0 ≡ code x .id
     code-at =
         id-at ids dists w (codes (k .kept)) (k .held) nobody i (omega arith)
-        ∙ ap (λ (z : Item). z .id) (map-at code (fresh nobody) nobody (k .kept) i (omega (arith, size)))
+        ∙ ap (λ (z : Item). z .id) (map-at code (opening nobody) nobody (k .kept) i (omega (arith, size)))
 
     opened : (x .isOpen ≡ true) × (x .of .id ≡ getD ids i 0 / 2)
     opened = code-open x (getD ids i 0 / 2) (sym code-at ∙ omega (arith, next .odd l))

@@ -18,7 +18,7 @@ use Rattle.definition.specs.Greedy.{State, visitedIds, begin, expand, popped, s
 use Rattle.metric.specs.Exact.{Exact}
 use Rattle.laws.specs.Parts.{part, Within, part-length, part-set, within-below, within-wider, within-trans, put-within, put-part, set-within}
 use Rattle.beam.specs.Held.{All, Small, Holds}
-use Rattle.marks.specs.Marked.{Marked, Seen, Gathers, Fresh}
+use Rattle.marks.specs.Marked.{Marked, Seen, Gathers, NextEpoch}
 use Rattle.marks.specs.News.{news-one}
 use Rattle.marks.specs.Visits.{seen-start, marked-most, marked-kept, seen-kept}
 use Rattle.greedy.specs.Kept.{Kept, code, codes, items, opens, Beyond}
@@ -237,9 +237,9 @@ module _ (n epoch beam : ℕ) (words₀ : List ℕ) (floats₀ : List Float) (wo
           }
 
 -- ---- a whole walk
-module _ (n epoch beam : ℕ) (words : List ℕ) (floats : List Float) (r : Room n epoch beam words floats) (words₁ : List ℕ) (e : ℕ) (f : Fresh n words words₁ epoch e) where
-  pub fresh-empty : Empty n e beam words₁ floats
-  fresh-empty = record { nodes = r .nodes; word-room = omega (arith, r .word-room, f .kept .size); float-room = r .float-room; below = f .below; beam-le = r .beam-le }
+module _ (n epoch beam : ℕ) (words : List ℕ) (floats : List Float) (r : Room n epoch beam words floats) (words₁ : List ℕ) (e : ℕ) (f : NextEpoch n words words₁ epoch e) where
+  pub next-empty : Empty n e beam words₁ floats
+  next-empty = record { nodes = r .nodes; word-room = omega (arith, r .word-room, f .kept .size); float-room = r .float-room; below = f .below; beam-le = r .beam-le }
 
   pub walked : (words₂ : List ℕ) (floats₂ : List Float) (v w : ℕ) (st : State) → Collected n e beam words₁ floats words₂ floats₂ v w st → Walks n epoch beam words floats words₂ floats₂ e v w st
   walked words₂ floats₂ v w st c =

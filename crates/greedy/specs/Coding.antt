@@ -14,7 +14,7 @@ use Rattle.definition.specs.Beam.{Item, nearer}
 use Rattle.laws.specs.Truth.{decide, is-false}
 use Rattle.laws.specs.Items.{nearer-is, not-nearer}
 use Rattle.beam.specs.Held.{All, Desc, Small}
-use Rattle.greedy.specs.Kept.{Kept, code, codes, items, fresh, close, Closed}
+use Rattle.greedy.specs.Kept.{Kept, code, codes, items, opening, close, Closed}
 
 -- ---- one code
 -- the item closed
@@ -43,9 +43,9 @@ code-most k = decide (k .isOpen) (λ t. omega (arith, open-code k t)) (λ f. ome
 
 -- ---- the order of codes
 -- x, open, stands to a code as x to its item
-pub fresh-nearer : (x : Item) (k : Kept) → nearer (code (fresh x)) (code k) ≡ nearer x (k .of)
+pub open-nearer : (x : Item) (k : Kept) → nearer (code (opening x)) (code k) ≡ nearer x (k .of)
 unfolding nearer code
-fresh-nearer x k = ap (λ (b : Bool). ltb (x .dist) (k .of .dist) || (eqb (x .dist) (k .of .dist) && b)) ids
+open-nearer x k = ap (λ (b : Bool). ltb (x .dist) (k .of .dist) || (eqb (x .dist) (k .of .dist) && b)) ids
   where
     ids : ltb (2 * x .id + 1) (code k .id) ≡ ltb (x .id) (k .of .id)
     ids =

@@ -18,8 +18,8 @@ use Rattle.beam.specs.Held.{All, Desc}
 use Rattle.beam.specs.ListLaws.{map-at}
 use Rattle.beam.specs.Order.{all-weaker, all-insert, insert-behind, length-insert}
 use Rattle.beam.specs.Caps.{capped-room, capped-nearer}
-use Rattle.greedy.specs.Kept.{Kept, code, codes, items, opens, fresh, put, close, Closed, Inside, Beyond}
-use Rattle.greedy.specs.Coding.{shut, open-code, fresh-nearer, behind-shut, shut-behind, length-codes, length-items, all-close, desc-items}
+use Rattle.greedy.specs.Kept.{Kept, code, codes, items, opens, opening, put, close, Closed, Inside, Beyond}
+use Rattle.greedy.specs.Coding.{shut, open-code, open-nearer, behind-shut, shut-behind, length-codes, length-items, all-close, desc-items}
 
 -- ---- what holds of all items of a list
 all-append : (P : Item → Type 0) (l r : List Item) → All P l → All P r → All P (l ++ r)
@@ -67,19 +67,19 @@ all-opens P (k ∷ ks) a = either (All P) (k .isOpen) (a .0, all-opens P ks (a .
 
 -- ---- an item that is put in
 -- put in by the items, it is put in by whatever stands in the same order
-put-map : (f : Kept → Item) (x : Item) → ((k : Kept) → nearer (f (fresh x)) (f k) ≡ nearer x (k .of)) → (ks : List Kept)
-    → insert (f (fresh x)) (map f ks) ≡ map f (put x ks)
+put-map : (f : Kept → Item) (x : Item) → ((k : Kept) → nearer (f (opening x)) (f k) ≡ nearer x (k .of)) → (ks : List Kept)
+    → insert (f (opening x)) (map f ks) ≡ map f (put x ks)
 unfolding insert place worse put
 put-map f x e [] = refl
 put-map f x e (k ∷ ks) = rw (e k) (go (nearer x (k .of)) (put-map f x e ks))
   where
-    go : (t : Bool) → insert (f (fresh x)) (map f ks) ≡ map f (put x ks)
-        → cond t (f k ∷ insert (f (fresh x)) (map f ks)) (f (fresh x) ∷ map f (k ∷ ks)) ≡ map f (cond t (k ∷ put x ks) (fresh x ∷ k ∷ ks))
+    go : (t : Bool) → insert (f (opening x)) (map f ks) ≡ map f (put x ks)
+        → cond t (f k ∷ insert (f (opening x)) (map f ks)) (f (opening x) ∷ map f (k ∷ ks)) ≡ map f (cond t (k ∷ put x ks) (opening x ∷ k ∷ ks))
     go true r = ap (λ (z : List Item). f k ∷ z) r
     go false r = refl
 
-pub put-codes : (x : Item) (ks : List Kept) → insert (code (fresh x)) (codes ks) ≡ codes (put x ks)
-put-codes x ks = put-map code x (fresh-nearer x) ks
+pub put-codes : (x : Item) (ks : List Kept) → insert (code (opening x)) (codes ks) ≡ codes (put x ks)
+put-codes x ks = put-map code x (open-nearer x) ks
 
 pub put-items : (x : Item) (ks : List Kept) → items (put x ks) ≡ insert x (items ks)
 put-items x ks = sym (put-map (λ (k : Kept). k .of) x (λ k. refl) ks)
@@ -94,7 +94,7 @@ put-opens x (k ∷ ks) d = go (nearer x (k .of)) refl (put-opens x ks (d .1))
         all-weaker (λ (z : Item). nearer (k .of) z ≡ false) (λ (z : Item). nearer x z ≡ false) (λ z g. behind-through nearer-order x (k .of) z e g) (items ks)
         (d .0)
 
-    go : (t : Bool) → nearer x (k .of) ≡ t → opens (put x ks) ≡ insert x (opens ks) → opens (cond t (k ∷ put x ks) (fresh x ∷ k ∷ ks)) ≡ insert x (opens (k ∷ ks))
+    go : (t : Bool) → nearer x (k .of) ≡ t → opens (put x ks) ≡ insert x (opens ks) → opens (cond t (k ∷ put x ks) (opening x ∷ k ∷ ks)) ≡ insert x (opens (k ∷ ks))
     go true e r =
         opens-first k (put x ks) ∙ ap (λ (z : List Item). own k ++ z) r
         ∙ sym (behind-rest x (own k) (opens ks) (all-own (λ (z : Item). nearer x z ≡ true) k e)) ∙ ap (insert x) (sym (opens-first k ks))
@@ -110,7 +110,7 @@ pub record Entered (beam : ℕ) (x : Item) (ks : List Kept) (frontier : List Ite
   pub kept : List Kept
   -- what the frontier has besides
   pub rest : List Item
-  pub codes-are : insertCapped beam (code (fresh x)) (codes ks) ≡ codes kept
+  pub codes-are : insertCapped beam (code (opening x)) (codes ks) ≡ codes kept
   pub items-are : insertCapped beam x (items ks) ≡ items kept
   pub frontier-is : insert x frontier ≡ rest ++ opens kept
   pub beyond : All (Beyond beam (items kept)) rest
@@ -127,7 +127,7 @@ entered-room beam n x ks rest frontier d parts far h =
     record {
       kept = put x ks;
       rest = [];
-      codes-are = capped-room beam (code (fresh x)) (codes ks) (omega (arith, length-codes ks)) ∙ put-codes x ks;
+      codes-are = capped-room beam (code (opening x)) (codes ks) (omega (arith, length-codes ks)) ∙ put-codes x ks;
       items-are = capped-room beam x (items ks) fits ∙ sym (put-items x ks);
       frontier-is =
           ap (insert x) (parts ∙ ap (λ (l : List Item). l ++ opens ks) (none-beyond beam (items ks) rest fits far)) ∙ sym (put-opens x ks (desc-items ks d));
@@ -177,7 +177,7 @@ module _ (beam n : ℕ) (x : Item) (k : Kept) (ks : List Kept) (rest frontier : 
       record {
         kept = put x ks;
         rest = rest ++ own k;
-        codes-are = capped-nearer beam (code (fresh x)) (code k) (codes ks) (omega arith) (omega (arith, length-codes ks)) (lt-ltb (x .dist) (k .of .dist) h) ∙ put-codes x ks;
+        codes-are = capped-nearer beam (code (opening x)) (code k) (codes ks) (omega arith) (omega (arith, length-codes ks)) (lt-ltb (x .dist) (k .of .dist) h) ∙ put-codes x ks;
         items-are = capped-nearer beam x (k .of) (items ks) (omega arith) (omega (arith, length-items ks)) (lt-ltb (x .dist) (k .of .dist) h) ∙ sym (put-items x ks);
         frontier-is =
             ap (insert x) (parts ∙ ap (λ (l : List Item). rest ++ l) (opens-first k ks) ∙ sym (append-assoc rest (own k) (opens ks)))
@@ -222,7 +222,7 @@ inside-close n zero (k ∷ ks) a = a
 inside-close n (suc i) (k ∷ ks) a = (a .0, inside-close n i ks (a .1))
 
 codes-close : (i : ℕ) (ks : List Kept)
-    → codes (close i ks) ≡ set (codes ks) i (item (getD ks i (fresh nobody) .of .dist) (2 * getD ks i (fresh nobody) .of .id))
+    → codes (close i ks) ≡ set (codes ks) i (item (getD ks i (opening nobody) .of .dist) (2 * getD ks i (opening nobody) .of .id))
 unfolding close code
 codes-close zero [] = refl
 codes-close (suc i) [] = refl
@@ -250,15 +250,15 @@ desc-close zero (k ∷ ks) c d = (behind ks c (d .0), d .1)
 desc-close (suc i) (k ∷ ks) c d = (all-close (λ (z : Item). nearer (code k) z ≡ false) (behind-shut (code k)) i ks (d .0), desc-close i ks c (d .1))
 
 -- the open one behind which all are closed is the last of the open ones
-opens-last : (i : ℕ) (ks : List Kept) → i < length ks → getD ks i (fresh nobody) .isOpen ≡ true → Closed (drop (suc i) ks)
-    → opens ks ≡ opens (close i ks) ++ (getD ks i (fresh nobody) .of ∷ [])
+opens-last : (i : ℕ) (ks : List Kept) → i < length ks → getD ks i (opening nobody) .isOpen ≡ true → Closed (drop (suc i) ks)
+    → opens ks ≡ opens (close i ks) ++ (getD ks i (opening nobody) .of ∷ [])
 unfolding close opens
 opens-last i [] h o c = absurd (omega arith)
 opens-last zero (k ∷ ks) h o c = rw (o, opens-closed ks c) refl
 opens-last (suc i) (k ∷ ks) h o c =
     opens-first k ks ∙ ap (λ (l : List Item). own k ++ l) (opens-last i ks (omega arith) o c)
-    ∙ sym (append-assoc (own k) (opens (close i ks)) (getD ks i (fresh nobody) .of ∷ []))
-    ∙ ap (λ (l : List Item). l ++ (getD ks i (fresh nobody) .of ∷ [])) (sym (opens-first k (close i ks)))
+    ∙ sym (append-assoc (own k) (opens (close i ks)) (getD ks i (opening nobody) .of ∷ []))
+    ∙ ap (λ (l : List Item). l ++ (getD ks i (opening nobody) .of ∷ [])) (sym (opens-first k (close i ks)))
 
 -- ---- the last of a beam
 length-last : (l : List Item) (x : Item) → length (l ++ (x ∷ [])) ≡ suc (length l)
@@ -274,17 +274,17 @@ without-best l x = take-at l (x ∷ []) (length (l ++ (x ∷ [])) - 1) (omega (a
 
 -- ---- the best of the frontier leaves it: the open one at place i, behind which all are closed
 pub record Popped (i : ℕ) (ks : List Kept) (rest frontier : List Item) (n : ℕ) : Type 0 where
-  pub best-is : best frontier ≡ getD ks i (fresh nobody) .of
+  pub best-is : best frontier ≡ getD ks i (opening nobody) .of
   pub without-is : withoutBest frontier ≡ rest ++ opens (close i ks)
-  pub codes-are : codes (close i ks) ≡ set (codes ks) i (item (getD ks i (fresh nobody) .of .dist) (2 * getD ks i (fresh nobody) .of .id))
+  pub codes-are : codes (close i ks) ≡ set (codes ks) i (item (getD ks i (opening nobody) .of .dist) (2 * getD ks i (opening nobody) .of .id))
   pub items-are : items (close i ks) ≡ items ks
   pub sorted : Desc (codes (close i ks))
   pub closed : Closed (drop i (close i ks))
   pub inside : Inside n ks → Inside n (close i ks)
   pub some : 0 < length frontier
-  pub code-is : getD (codes ks) i nobody .id ≡ 2 * getD ks i (fresh nobody) .of .id + 1
+  pub code-is : getD (codes ks) i nobody .id ≡ 2 * getD ks i (opening nobody) .of .id + 1
 
-pub popped : (i n : ℕ) (ks : List Kept) (rest frontier : List Item) → i < length ks → getD ks i (fresh nobody) .isOpen ≡ true → Closed (drop (suc i) ks)
+pub popped : (i n : ℕ) (ks : List Kept) (rest frontier : List Item) → i < length ks → getD ks i (opening nobody) .isOpen ≡ true → Closed (drop (suc i) ks)
     → frontier ≡ rest ++ opens ks → Desc (codes ks) → Popped i ks rest frontier n
 popped i n ks rest frontier h o c parts d =
     record {
@@ -296,11 +296,11 @@ popped i n ks rest frontier h o c parts d =
       closed = closed-from i ks c;
       inside = inside-close n i ks;
       some = omega (arith, ap length last, length-last front x);
-      code-is = ap (λ (z : Item). z .id) (map-at code (fresh nobody) nobody ks i h) ∙ open-code (getD ks i (fresh nobody)) o;
+      code-is = ap (λ (z : Item). z .id) (map-at code (opening nobody) nobody ks i h) ∙ open-code (getD ks i (opening nobody)) o;
     }
   where
     x : Item
-    x = getD ks i (fresh nobody) .of
+    x = getD ks i (opening nobody) .of
 
     front : List Item
     front = rest ++ opens (close i ks)

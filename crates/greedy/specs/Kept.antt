@@ -26,13 +26,13 @@ unfoldable pub opens : List Kept → List Item
 opens [] = []
 opens (k ∷ ks) = let r = opens ks in cond (k .isOpen) (k .of ∷ r) r
 
-abbrev pub fresh : Item → Kept
-fresh x = record { of = x; isOpen = true }
+abbrev pub opening : Item → Kept
+opening x = record { of = x; isOpen = true }
 
 -- x goes in, open
 unfoldable pub put : Item → List Kept → List Kept
-put x [] = fresh x ∷ []
-put x (k ∷ ks) = let r = put x ks in cond (nearer x (k .of)) (k ∷ r) (fresh x ∷ k ∷ ks)
+put x [] = opening x ∷ []
+put x (k ∷ ks) = let r = put x ks in cond (nearer x (k .of)) (k ∷ r) (opening x ∷ k ∷ ks)
 
 -- the one at place i is closed
 unfoldable pub close : ℕ → List Kept → List Kept

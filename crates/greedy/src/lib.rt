@@ -15,7 +15,7 @@ ghost use Rattle.definition.specs.Metric.{fromQuery};
 ghost use Rattle.definition.specs.Tables.{row};
 ghost use Rattle.definition.specs.Greedy.{expand, steps, greedy};
 ghost use Rattle.laws.specs.Parts.{part};
-ghost use Rattle.laws.specs.Words.{Row};
+ghost use Rattle.laws.specs.Words.{Searchable};
 ghost use Rattle.greedy.specs.Scratch.{admitsF, haltsF, Measures, Ready, Live, Pushed, Met, Moves, Next, Arrived, Reaches, Empty, Collected, Room, Walks};
 
 // What a walk goes by: n entries of dim bytes, and rows of width words.
@@ -145,7 +145,7 @@ fn expand(
 ) -> Counts
     requires { ⌜ Ready (p .n) epoch (p .beam) (now words) (now floats) (c .visited) (c .frontier) (c .work) (c .done) ⌝ }
     requires { ⌜ Measures (p .n) (p .dim) (now vectors) (now query) ⌝ }
-    requires { ⌜ Row (p .n) (now ids) ⌝ }
+    requires { ⌜ Searchable (p .n) (now ids) ⌝ }
     ensures { λ r. ⌜ Moves (p .n) epoch (p .beam) (now (words .entry)) (now (floats .entry)) (c .visited) (c .frontier) (c .work) (c .done) (now (words .exit)) (now (floats .exit)) (r .visited) (r .frontier) (r .work) (r .done) (λ st. expand (fromQuery (p .dim) (now (vectors .entry)) (now (query .entry))) (p .beam) st (now (ids .entry))) ⌝ }
 {
     let n = p.n;
@@ -233,7 +233,7 @@ fn step(
     requires { ⌜ Ready (p .n) epoch (p .beam) (now words) (now floats) (c .visited) (c .frontier) (c .work) (c .done) ⌝ }
     requires { ⌜ Measures (p .n) (p .dim) (now vectors) (now query) ⌝ }
     requires { ⌜ (length (now table) ≡ p .n * p .width) × (p .width ≤ 128) × (id < p .n) ⌝ }
-    requires { ⌜ Row (p .n) (now table) ⌝ }
+    requires { ⌜ Searchable (p .n) (now table) ⌝ }
     ensures { λ r. ⌜ Moves (p .n) epoch (p .beam) (now (words .entry)) (now (floats .entry)) (c .visited) (c .frontier) (c .work) (c .done) (now (words .exit)) (now (floats .exit)) (r .visited) (r .frontier) (r .work) (r .done) (λ st. expand (fromQuery (p .dim) (now (vectors .entry)) (now (query .entry))) (p .beam) st (row (p .width) (now (table .entry)) id)) ⌝ }
 {
     let width = p.width;
@@ -257,7 +257,7 @@ fn walk(
     requires { ⌜ Live (p .n) epoch (p .beam) (now words) (now floats) (c .visited) (c .frontier) (c .work) (c .done) ⌝ }
     requires { ⌜ Measures (p .n) (p .dim) (now vectors) (now query) ⌝ }
     requires { ⌜ (length (now table) ≡ p .n * p .width) × (p .width ≤ 128) ⌝ }
-    requires { ⌜ Row (p .n) (now table) ⌝ }
+    requires { ⌜ Searchable (p .n) (now table) ⌝ }
     ensures { λ r. ⌜ Moves (p .n) epoch (p .beam) (now (words .entry)) (now (floats .entry)) (c .visited) (c .frontier) (c .work) (c .done) (now (words .exit)) (now (floats .exit)) (r .visited) (r .frontier) (r .work) (r .done) (λ st. steps (fromQuery (p .dim) (now (vectors .entry)) (now (query .entry))) (row (p .width) (now (table .entry))) (p .beam) (p .n) st) ⌝ }
 {
     let mut s = c;
@@ -297,7 +297,7 @@ fn from_start(
     requires { ⌜ Arrived (p .n) epoch (p .beam) (now words) (now floats) (fromQuery (p .dim) (now vectors) (now query)) start dist ⌝ }
     requires { ⌜ Measures (p .n) (p .dim) (now vectors) (now query) ⌝ }
     requires { ⌜ (length (now table) ≡ p .n * p .width) × (p .width ≤ 128) × (start < p .n) ⌝ }
-    requires { ⌜ Row (p .n) (now table) ⌝ }
+    requires { ⌜ Searchable (p .n) (now table) ⌝ }
     ensures { λ r. ⌜ Reaches (p .n) epoch (p .beam) (now (words .entry)) (now (floats .entry)) (now (words .exit)) (now (floats .exit)) (r .visited) (r .frontier) (r .work) (r .done) (greedy (fromQuery (p .dim) (now (vectors .entry)) (now (query .entry))) (row (p .width) (now (table .entry))) (p .n) (p .beam) start) ⌝ }
 {
     if p.beam == 0 {
@@ -345,7 +345,7 @@ fn collect(
     requires { ⌜ Empty (p .n) epoch (p .beam) (now words) (now floats) ⌝ }
     requires { ⌜ Measures (p .n) (p .dim) (now vectors) (now query) ⌝ }
     requires { ⌜ (length (now table) ≡ p .n * p .width) × (p .width ≤ 128) × (start < p .n) ⌝ }
-    requires { ⌜ Row (p .n) (now table) ⌝ }
+    requires { ⌜ Searchable (p .n) (now table) ⌝ }
     ensures { λ r. ⌜ Collected (p .n) epoch (p .beam) (now (words .entry)) (now (floats .entry)) (now (words .exit)) (now (floats .exit)) (r .visited) (r .work) (greedy (fromQuery (p .dim) (now (vectors .entry)) (now (query .entry))) (row (p .width) (now (table .entry))) (p .n) (p .beam) start) ⌝ }
 {
     let n = p.n;
@@ -380,7 +380,7 @@ pub fn greedy(
     requires { ⌜ Room (p .n) epoch (p .beam) (now words) (now floats) ⌝ }
     requires { ⌜ Measures (p .n) (p .dim) (now vectors) (now query) ⌝ }
     requires { ⌜ (length (now table) ≡ p .n * p .width) × (p .width ≤ 128) × (start < p .n) ⌝ }
-    requires { ⌜ Row (p .n) (now table) ⌝ }
+    requires { ⌜ Searchable (p .n) (now table) ⌝ }
     ensures { λ r. ⌜ Walks (p .n) epoch (p .beam) (now (words .entry)) (now (floats .entry)) (now (words .exit)) (now (floats .exit)) (r .epoch) (r .visited) (r .work) (greedy (fromQuery (p .dim) (now (vectors .entry)) (now (query .entry))) (row (p .width) (now (table .entry))) (p .n) (p .beam) start) ⌝ }
 {
     let e = marks::next_epoch(words, p.n, epoch);

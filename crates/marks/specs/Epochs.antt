@@ -8,14 +8,14 @@ use borrow.Author.Tests.{ne-eqb, eq-eqb}
 use borrow.Rule.Slice.PartMut.{putMid}
 use lib.ListN.{length, getD, replicate, length-replicate, getD-replicate}
 use Rattle.laws.specs.Parts.{part, part-length, part-at, put-part, put-within, within-none}
-use Rattle.marks.specs.Marked.{Marks, Fresh}
+use Rattle.marks.specs.Marked.{Marks, NextEpoch}
 
 module _ (n : ℕ) (words : List ℕ) (epoch : ℕ) (fits : n ≤ length words) where
-  pub fresh-more : Marks n words epoch → (epoch ≡ 0xFFFFFFFF → ⊥) → Fresh n words words epoch (epoch + 1)
-  fresh-more m h = record { is = sym (ap (λ (t : Bool). cond t 1 (epoch + 1)) (ne-eqb epoch 0xFFFFFFFF h)); below = λ i k. omega (arith, m i k); kept = within-none 0 n words }
+  pub epoch-more : Marks n words epoch → (epoch ≡ 0xFFFFFFFF → ⊥) → NextEpoch n words words epoch (epoch + 1)
+  epoch-more m h = record { is = sym (ap (λ (t : Bool). cond t 1 (epoch + 1)) (ne-eqb epoch 0xFFFFFFFF h)); below = λ i k. omega (arith, m i k); kept = within-none 0 n words }
 
-  pub fresh-clear : epoch ≡ 0xFFFFFFFF → (ys : List ℕ) → ys ≡ replicate (length (part 0 n words)) 0 → Fresh n words (putMid 0 (n - 0) words ys) epoch 1
-  fresh-clear h ys e =
+  pub epoch-clear : epoch ≡ 0xFFFFFFFF → (ys : List ℕ) → ys ≡ replicate (length (part 0 n words)) 0 → NextEpoch n words (putMid 0 (n - 0) words ys) epoch 1
+  epoch-clear h ys e =
       record {
         is = sym (ap (λ (t : Bool). cond t 1 (epoch + 1)) (eq-eqb epoch 0xFFFFFFFF h));
         below = λ i k. omega (arith, zero-at i k);

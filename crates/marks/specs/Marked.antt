@@ -46,7 +46,7 @@ pub record Gathers (n epoch : ℕ) (words₀ : List ℕ) (v₀ : ℕ) (words : L
   pub kept : Within 0 (2 * n) words₀ words
 
 -- no mark is the new epoch yet, and each is below it
-pub record Fresh (n : ℕ) (words₀ words : List ℕ) (epoch r : ℕ) : Type 0 where
+pub record NextEpoch (n : ℕ) (words₀ words : List ℕ) (epoch r : ℕ) : Type 0 where
   pub is : r ≡ cond (eqb epoch 0xFFFFFFFF) 1 (epoch + 1)
   pub below : (i : ℕ) → i < n → getD words i 0 < r
   pub kept : Within 0 n words₀ words

@@ -6,16 +6,16 @@ ghost use mathlib.Core.Path.{_≡_};
 ghost use mathlib.Core.List.{[], _∷_};
 ghost use Prim.Native.Nat.{ℕ, _+_, _*_, _≤_, _<_};
 ghost use lib.ListN.{length};
-ghost use Rattle.laws.specs.Words.{Row};
-ghost use Rattle.marks.specs.Marked.{Marks, Marked, Gathers, Fresh};
+ghost use Rattle.laws.specs.Words.{Searchable};
+ghost use Rattle.marks.specs.Marked.{Marks, Marked, Gathers, NextEpoch};
 
 // The epoch of the next walk: one more with wrap; at 0 the marks are cleared and it is 1.
 pub fn next_epoch(words: &mut [u32], n: usize, epoch: u32) -> u32
     requires { ⌜ (n ≤ length (now words)) × Marks n (now words) epoch ⌝ }
-    ensures { λ r. ⌜ Fresh n (now (words .entry)) (now (words .exit)) epoch r ⌝ }
+    ensures { λ r. ⌜ NextEpoch n (now (words .entry)) (now (words .exit)) epoch r ⌝ }
 {
     if epoch == 0xFFFFFFFF {
-        laws::clear_words(&mut words[0..n]);
+        scratch::clear_words(&mut words[0..n]);
         return 1;
     }
     epoch + 1
@@ -40,7 +40,7 @@ pub fn note(words: &mut [u32], n: usize, epoch: u32, v: usize, id: u32) -> usize
 // The new ids of a row, in order; padding is skipped wherever it stands.
 pub fn gather(words: &mut [u32], n: usize, epoch: u32, v: usize, ids: &[u32]) -> usize
     requires { ⌜ Marked n epoch (now words) v ⌝ }
-    requires { ⌜ Row n (now ids) ⌝ }
+    requires { ⌜ Searchable n (now ids) ⌝ }
     ensures { λ r. ⌜ Gathers n epoch (now (words .entry)) v (now (words .exit)) r (now (ids .entry)) ⌝ }
 {
     let mut seen = v;

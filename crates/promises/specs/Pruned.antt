@@ -11,7 +11,7 @@ use lib.Ieee.{Float, lt}
 use Rattle.definition.specs.Lists.{sort, isIn}
 use Rattle.definition.specs.Beam.{Item, nearer}
 use Rattle.definition.specs.Floats.{nought, one, four, largest, above}
-use Rattle.definition.specs.Prune.{Round, measured, fresh, cut, candidates, targetOf, nextAlpha, shade, shadeAll, skipOne, takeOne, round, rounds, mostRounds}
+use Rattle.definition.specs.Prune.{Round, measured, unseen, cut, candidates, targetOf, nextAlpha, shade, shadeAll, skipOne, takeOne, round, rounds, mostRounds}
 use Rattle.definition.specs.Prune.{prunedFrom, prune}
 use Rattle.definition.specs.Batch.{Setting, pruneIds}
 use Rattle.laws.specs.Truth.{either, branch, not-both}
@@ -30,28 +30,28 @@ pub record Pruned (node degree : ℕ) (xs row : List ℕ) : Type 0 where
 
 -- ---- the candidates: once each, without the node
 
-fresh-ids : (seen : List ℕ) (cs : List Item) {x : ℕ} → Mem x (idsOf (fresh seen cs)) → Mem x (idsOf cs) × ¬ Mem x seen
-unfolding fresh
-fresh-ids seen [] m = absurd (not-nil m)
-fresh-ids seen (c ∷ cs) {x} m₀ =
+unseen-ids : (seen : List ℕ) (cs : List Item) {x : ℕ} → Mem x (idsOf (unseen seen cs)) → Mem x (idsOf cs) × ¬ Mem x seen
+unfolding unseen
+unseen-ids seen [] m = absurd (not-nil m)
+unseen-ids seen (c ∷ cs) {x} m₀ =
     (branch (λ (l : List Item). Mem x (idsOf l) → Mem x (idsOf (c ∷ cs)) × ¬ Mem x seen) (isIn (c .id) seen)
-    (λ e m. let r = fresh-ids seen cs m in (there (r .0), r .1))
+    (λ e m. let r = unseen-ids seen cs m in (there (r .0), r .1))
     (λ e m.
-    cons-elim (λ u. Mem u (idsOf (c ∷ cs)) × ¬ Mem u seen) (c .id) (idsOf (fresh (c .id ∷ seen) cs)) (here refl, isIn-none (c .id) seen e)
-    (λ u h. let r = fresh-ids (c .id ∷ seen) cs h in (there (r .0), λ i. r .1 (there i))) x m)) m₀
+    cons-elim (λ u. Mem u (idsOf (c ∷ cs)) × ¬ Mem u seen) (c .id) (idsOf (unseen (c .id ∷ seen) cs)) (here refl, isIn-none (c .id) seen e)
+    (λ u h. let r = unseen-ids (c .id ∷ seen) cs h in (there (r .0), λ i. r .1 (there i))) x m)) m₀
 
-fresh-apart : (seen : List ℕ) (cs : List Item) → Apart (idsOf (fresh seen cs))
-unfolding fresh
-fresh-apart seen [] = nobody
-fresh-apart seen (c ∷ cs) =
-    either (λ (l : List Item). Apart (idsOf l)) (isIn (c .id) seen) (fresh-apart seen cs)
-    (another (λ m. fresh-ids (c .id ∷ seen) cs m .1 (here refl)) (fresh-apart (c .id ∷ seen) cs))
+unseen-apart : (seen : List ℕ) (cs : List Item) → Apart (idsOf (unseen seen cs))
+unfolding unseen
+unseen-apart seen [] = nobody
+unseen-apart seen (c ∷ cs) =
+    either (λ (l : List Item). Apart (idsOf l)) (isIn (c .id) seen) (unseen-apart seen cs)
+    (another (λ m. unseen-ids (c .id ∷ seen) cs m .1 (here refl)) (unseen-apart (c .id ∷ seen) cs))
 
 candidates-ids : (node : ℕ) (pool : List Item) {x : ℕ} → Mem x (idsOf (candidates node pool)) → Mem x (idsOf pool) × ¬ (x ≡ node)
 unfolding candidates
 candidates-ids node pool {x} m =
     let sorted = sort nearer pool in
-    let f = fresh-ids (node ∷ []) (take cut sorted) m in
+    let f = unseen-ids (node ∷ []) (take cut sorted) m in
     (ids-within (take cut sorted) pool (λ c h. sort-mem nearer pool (take-mem cut sorted h)) x (f .0), λ e. f .1 (here e))
 
 measured-ids : (d : ℕ → ℕ) (xs : List ℕ) → idsOf (measured d xs) ≡ xs
@@ -219,7 +219,7 @@ prune-tells pair degree alpha h node pool =
     let cs = candidates node pool in
     let fs = replicate (length cs) nought in
     let t = rounds-tell pair (targetOf alpha) (target-modest alpha h) mostRounds one one-modest [] degree cs fs
-    (fresh-apart (node ∷ []) (take cut (sort nearer pool))) (barred-none cs fs) in
+    (unseen-apart (node ∷ []) (take cut (sort nearer pool))) (barred-none cs fs) in
     record {
       once = t .apart;
       within = λ x m. candidates-ids node pool (t .within x m) .0;

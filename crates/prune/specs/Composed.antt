@@ -11,7 +11,7 @@ use borrow.Rule.Slice.PartMut.{putMid}
 use Rattle.definition.specs.Lists.{sort, isIn}
 use Rattle.definition.specs.Beam.{Item, nearer}
 use Rattle.definition.specs.Metric.{between}
-use Rattle.definition.specs.Prune.{fresh, cut, candidates, prunedFrom, prune}
+use Rattle.definition.specs.Prune.{unseen, cut, candidates, prunedFrom, prune}
 use Rattle.definition.specs.Tables.{padded}
 use Rattle.whole.specs.Whole.{IsWhole}
 use Rattle.metric.specs.Exact.{VectorIn}
@@ -21,12 +21,12 @@ use Rattle.prune_items.specs.Sorting.{all-sort}
 use Rattle.prune_pool.specs.Says.{Distinct, Pool, Chosen}
 use Rattle.prune.specs.Says.{Measurable, Written, Stretched}
 
-all-fresh : (P : Item → Type 0) (seen : List ℕ) (l : List Item) → All P l → All P (fresh seen l)
-unfolding fresh
+all-fresh : (P : Item → Type 0) (seen : List ℕ) (l : List Item) → All P l → All P (unseen seen l)
+unfolding unseen
 all-fresh P seen [] a = tt
 all-fresh P seen (c ∷ cs) a = go (isIn (c .id) seen) (all-fresh P seen cs (a .1)) (all-fresh P (c .id ∷ seen) cs (a .1))
   where
-    go : (b : Bool) → All P (fresh seen cs) → All P (fresh (c .id ∷ seen) cs) → All P (cond b (fresh seen cs) (c ∷ fresh (c .id ∷ seen) cs))
+    go : (b : Bool) → All P (unseen seen cs) → All P (unseen (c .id ∷ seen) cs) → All P (cond b (unseen seen cs) (c ∷ unseen (c .id ∷ seen) cs))
     go true p q = p
     go false p q = (a .0, q)
 

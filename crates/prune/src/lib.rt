@@ -198,7 +198,7 @@ pub fn write_pruned(
     requires { ⌜ (length (now factors) ≡ length (now ids)) × (degree ≤ length (now row)) ⌝ }
     ensures { λ r. ⌜ Written (now (row .exit)) r (length (now (row .entry))) (prunedFrom (between dim (now (vectors .entry))) degree alpha (itemsOf (now (ids .entry)) (now (dists .entry)))) ⌝ }
 {
-    laws::clear_floats(factors);
+    scratch::clear_floats(factors);
     let count = take_rounds(vectors, dim, ids, dists, factors, row, degree, alpha);
     pad_row(row, count);
     count

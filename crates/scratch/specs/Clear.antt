@@ -9,6 +9,7 @@ use lib.ListN.{length, take, drop, replicate, length-take}
 use Rattle.definition.specs.Lists.{cleared}
 use Rattle.definition.specs.Floats.{nought}
 use Rattle.definition.specs.Refusals.{buildWords, buildFloats}
+use Rattle.scratch.specs.Layout.{freshEnd, floatsEnd}
 
 -- the first w words and f floats are 0, what lies beyond is untouched
 pub record FrontClear (w f : ℕ) (words₀ : List ℕ) (floats₀ : List Float) (words : List ℕ) (floats : List Float) : Type 0 where
@@ -30,13 +31,14 @@ front-clear w f words floats ws fs hw hf ew ef = record { words-are = put-cleare
 
 -- the room of a build call, against any lists, as those at the call's entry, that are the same beyond the room
 pub record RoomClear (n : ℕ) (words₀ : List ℕ) (floats₀ : List Float) (words : List ℕ) (floats : List Float) : Type 0 where
-  pub words-are : (from : List ℕ) → drop (6 * n + 32768) words₀ ≡ drop (6 * n + 32768) from → words ≡ cleared 0 (buildWords n) from
-  pub floats-are : (from : List Float) → drop (4 * n + 1024) floats₀ ≡ drop (4 * n + 1024) from → floats ≡ cleared nought (buildFloats n) from
+  pub words-are : (from : List ℕ) → drop (freshEnd n) words₀ ≡ drop (freshEnd n) from → words ≡ cleared 0 (buildWords n) from
+  pub floats-are : (from : List Float) → drop (floatsEnd n) floats₀ ≡ drop (floatsEnd n) from → floats ≡ cleared nought (buildFloats n) from
 
-pub room-clear : (n : ℕ) (words₀ : List ℕ) (floats₀ : List Float) (words : List ℕ) (floats : List Float) → FrontClear (6 * n + 32768) (4 * n + 1024) words₀ floats₀ words floats → RoomClear n words₀ floats₀ words floats
+pub room-clear : (n w f : ℕ) (words₀ : List ℕ) (floats₀ : List Float) (words : List ℕ) (floats : List Float) → w ≡ freshEnd n → f ≡ floatsEnd n
+    → FrontClear w f words₀ floats₀ words floats → RoomClear n words₀ floats₀ words floats
 unfolding buildWords buildFloats cleared
-room-clear n words₀ floats₀ words floats c =
+room-clear n w f words₀ floats₀ words floats we fe c =
     record {
-      words-are = λ from q. c .words-are ∙ ap (λ (l : List ℕ). replicate (6 * n + 32768) 0 ++ l) q;
-      floats-are = λ from q. c .floats-are ∙ ap (λ (l : List Float). replicate (4 * n + 1024) nought ++ l) q;
+      words-are = λ from q. c .words-are ∙ ap (λ (k : ℕ). cleared 0 k words₀) we ∙ ap (λ (l : List ℕ). replicate (freshEnd n) 0 ++ l) q;
+      floats-are = λ from q. c .floats-are ∙ ap (λ (k : ℕ). cleared nought k floats₀) fe ∙ ap (λ (l : List Float). replicate (floatsEnd n) nought ++ l) q;
     }

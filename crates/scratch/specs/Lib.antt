@@ -1,3 +1,5 @@
--- The room of a call left zero, and its outcome by its number.
+-- The lent slices: where everything lies in them, the room left zero, and a call's outcome by its number.
+pub mod Lent
+pub mod Layout
 pub mod Clear
 pub mod Outcomes

@@ -1,23 +1,160 @@
-// The scratch room that 01 states for a call: left zero when the call is done.
-ghost use Prim.Native.Nat.{_+_, _*_, _≤_};
-ghost use lib.ListN.{length};
+// The two lent slices of scratch: where everything lies in them (specs/Layout says what lies where), and the room left zero when a call is done.
+ghost use mathlib.Core.Path.{_≡_};
+ghost use Prim.Native.Nat.{_+_, _*_, _≤_, _<_};
+ghost use lib.ListN.{length, replicate};
+ghost use lib.Ieee.{ofBits, binary32};
+ghost use Rattle.scratch.specs.Layout.{workAt, workEnd, workDistsEnd, poolAt, stampsAt, stampsEnd, poolDistsAt, factorsAt, factorsEnd, linksAt, linksEnd, freshAt, freshRowAt, freshEnd, floatsEnd};
 ghost use Rattle.scratch.specs.Clear.{FrontClear, RoomClear};
+
+// Words of a walk: marks from 0, the visited from n, work.
+pub fn work_at(n: usize) -> usize
+    requires { ⌜ n ≤ 65536 ⌝ }
+    ensures { λ r. ⌜ r ≡ workAt n ⌝ }
+{
+    2 * n
+}
+
+pub fn work_end(n: usize) -> usize
+    requires { ⌜ n ≤ 65536 ⌝ }
+    ensures { λ r. ⌜ r ≡ workEnd n ⌝ }
+{
+    2 * n + 256
+}
+
+// Floats of a walk: the visited from 0, work from n.
+pub fn work_dists_end(n: usize) -> usize
+    requires { ⌜ n ≤ 65536 ⌝ }
+    ensures { λ r. ⌜ r ≡ workDistsEnd n ⌝ }
+{
+    n + 256
+}
+
+// Words of a pool: its ids, and its stamps.
+pub fn pool_at(n: usize) -> usize
+    requires { ⌜ n ≤ 65536 ⌝ }
+    ensures { λ r. ⌜ r ≡ poolAt n ⌝ }
+{
+    3 * n + 256
+}
+
+pub fn stamps_at(n: usize) -> usize
+    requires { ⌜ n ≤ 65536 ⌝ }
+    ensures { λ r. ⌜ r ≡ stampsAt n ⌝ }
+{
+    4 * n + 256
+}
+
+pub fn stamps_end(n: usize) -> usize
+    requires { ⌜ n ≤ 65536 ⌝ }
+    ensures { λ r. ⌜ r ≡ stampsEnd n ⌝ }
+{
+    5 * n + 256
+}
+
+// Floats of a pool: its distances, and then the factors of pruning.
+pub fn pool_dists_at(n: usize) -> usize
+    requires { ⌜ n ≤ 65536 ⌝ }
+    ensures { λ r. ⌜ r ≡ poolDistsAt n ⌝ }
+{
+    2 * n + 256
+}
+
+pub fn factors_at(n: usize) -> usize
+    requires { ⌜ n ≤ 65536 ⌝ }
+    ensures { λ r. ⌜ r ≡ factorsAt n ⌝ }
+{
+    3 * n + 256
+}
+
+pub fn factors_end(n: usize) -> usize
+    requires { ⌜ n ≤ 65536 ⌝ }
+    ensures { λ r. ⌜ r ≡ factorsEnd n ⌝ }
+{
+    3 * n + 1006
+}
+
+// Words of the merge: heads from 0, seats from n, links.
+pub fn links_at(n: usize) -> usize
+    requires { ⌜ n ≤ 65536 ⌝ }
+    ensures { λ r. ⌜ r ≡ linksAt n ⌝ }
+{
+    2 * n
+}
+
+pub fn links_end(n: usize) -> usize
+    requires { ⌜ n ≤ 65536 ⌝ }
+    ensures { λ r. ⌜ r ≡ linksEnd n ⌝ }
+{
+    2 * n + 16384
+}
+
+// The fresh rows, and the p-th of them.
+pub fn fresh_at(n: usize) -> usize
+    requires { ⌜ n ≤ 65536 ⌝ }
+    ensures { λ r. ⌜ r ≡ freshAt n ⌝ }
+{
+    6 * n + 16384
+}
+
+pub fn fresh_row_at(n: usize, p: usize) -> usize
+    requires { ⌜ (n ≤ 65536) × (p < 256) ⌝ }
+    ensures { λ r. ⌜ r ≡ freshRowAt n p ⌝ }
+{
+    6 * n + 16384 + 64 * p
+}
+
+// Where the room of a batch, close or whole build ends, in words and in floats.
+pub fn fresh_end(n: usize) -> usize
+    requires { ⌜ n ≤ 65536 ⌝ }
+    ensures { λ r. ⌜ r ≡ freshEnd n ⌝ }
+{
+    6 * n + 32768
+}
+
+pub fn floats_end(n: usize) -> usize
+    requires { ⌜ n ≤ 65536 ⌝ }
+    ensures { λ r. ⌜ r ≡ floatsEnd n ⌝ }
+{
+    4 * n + 1024
+}
+
+// Every word becomes 0.
+pub fn clear_words(s: &mut [u32])
+    ensures { λ _. ⌜ now (s .exit) ≡ replicate (length (now (s .entry))) 0 ⌝ }
+{
+    let mut i = 0;
+    while i < s.len() {
+        s[i] = 0;
+        i += 1;
+    }
+}
+
+// Every float becomes +0.0.
+pub fn clear_floats(s: &mut [f32])
+    ensures { λ _. ⌜ now (s .exit) ≡ replicate (length (now (s .entry))) (ofBits binary32 0) ⌝ }
+{
+    let mut i = 0;
+    while i < s.len() {
+        s[i] = 0.0;
+        i += 1;
+    }
+}
 
 // The first w words and the first f floats become 0; what lies beyond is untouched.
 pub fn clear_front(words: &mut [u32], floats: &mut [f32], w: usize, f: usize)
     requires { ⌜ (w ≤ length (now words)) × (f ≤ length (now floats)) ⌝ }
     ensures { λ _. ⌜ FrontClear w f (now (words .entry)) (now (floats .entry)) (now (words .exit)) (now (floats .exit)) ⌝ }
 {
-    laws::clear_words(&mut words[0..w]);
-    laws::clear_floats(&mut floats[0..f]);
+    clear_words(&mut words[0..w]);
+    clear_floats(&mut floats[0..f]);
 }
 
-// The room of a batch, close or whole build: 6n + 32,768 words and 4n + 1,024 floats.
+// The room of a batch, close or whole build becomes 0.
 pub fn clear_room(n: usize, words: &mut [u32], floats: &mut [f32])
-    requires { ⌜ (n ≤ 65536) × (6 * n + 32768 ≤ length (now words)) × (4 * n + 1024 ≤ length (now floats)) ⌝ }
+    requires { ⌜ (n ≤ 65536) × (freshEnd n ≤ length (now words)) × (floatsEnd n ≤ length (now floats)) ⌝ }
     ensures { λ _. ⌜ RoomClear n (now (words .entry)) (now (floats .entry)) (now (words .exit)) (now (floats .exit)) ⌝ }
 {
-    let w = 6 * n + 32768;
-    let f = 4 * n + 1024;
+    let w = fresh_end(n);
+    let f = floats_end(n);
     clear_front(words, floats, w, f);
 }

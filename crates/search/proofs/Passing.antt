@@ -17,8 +17,8 @@ use Rattle.definition.specs.Refusals.{SearchCall, searchWords, searchFloats, mo
 use Rattle.laws.specs.Parts.{part, Within, part-length, put-within, within-wider, within-trans}
 use Rattle.beam.specs.Held.{Holds}
 use Rattle.greedy.specs.Scratch.{Room, Measures, Walks}
-use Rattle.laws.specs.Words.{Row}
-use Rattle.marks.specs.Epochs.{fresh-clear}
+use Rattle.laws.specs.Words.{Searchable}
+use Rattle.marks.specs.Epochs.{epoch-clear}
 use Rattle.checks_number.specs.SearchNumber.{Accepted}
 use Rattle.search.specs.Answering.{Listed, Wiped, workOf, found-count, found-ids, found-dists}
 use Rattle.search.specs.Statement.{outOf, Searched}
@@ -41,7 +41,7 @@ module _ (c : SearchCall) (a : Accepted c) (ys : List ℕ) (zero-marks : ys ≡ 
         nodes = a .nodes;
         word-room = omega (arith, a .word-room, front .size);
         float-room = omega (arith, a .float-room);
-        marks = λ i h. omega (arith, fresh-clear (c .n) (c .words) 0xFFFFFFFF marks-room refl ys zero-marks .below i h);
+        marks = λ i h. omega (arith, epoch-clear (c .n) (c .words) 0xFFFFFFFF marks-room refl ys zero-marks .below i h);
         beam-le = omega (arith, a .beam-few);
       }
 

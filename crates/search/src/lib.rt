@@ -84,7 +84,7 @@ pub fn search_accepted(
         width: degree,
         beam: most,
     };
-    laws::clear_words(&mut words[0..n]);
+    scratch::clear_words(&mut words[0..n]);
     let s = greedy::greedy(words, floats, vectors, query, table, p, 1, start);
     let len = s.work;
     let count = laws::least(k, len);

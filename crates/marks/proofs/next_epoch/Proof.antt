@@ -1,12 +1,12 @@
 -- `next_epoch`.
 use native.Mathlib.Omega.{arith}
 use borrow.Author.Needs.{needs}
-use Rattle.marks.specs.Epochs.{fresh-more, fresh-clear}
+use Rattle.marks.specs.Epochs.{epoch-more, epoch-clear}
 use Rattle.marks.proofs.next_epoch.Statement.{statement}
 use Rattle.marks.proofs.next_epoch.Tie as tie
 use Rattle.marks.proofs.next_epoch.Reads as reads
 use Rattle.marks.proofs.next_epoch.Lts as lts
-use Rattle.laws.proofs.clear_words.Reads as clear-words-reads
+use Rattle.scratch.proofs.clear_words.Reads as clear-words-reads
 
 sub-clear-words : tie.Need-sub-clear-words
 sub-clear-words c = search needs
@@ -24,13 +24,13 @@ same-length : tie.Need-same-length
 same-length c = search needs
 
 returns : tie.Need-returns
-returns c = let s = c .before .before .before .before .before .before in fresh-clear (s .args .n) (s .args .words .now) (s .args .epoch) (omega arith) (c .before .before .before .before .if1 .taken) (c .before .before .clear-words .last .0) (c .before .before .clear-words .ensures)
+returns c = let s = c .before .before .before .before .before .before in epoch-clear (s .args .n) (s .args .words .now) (s .args .epoch) (omega arith) (c .before .before .before .before .if1 .taken) (c .before .before .clear-words .last .0) (c .before .before .clear-words .ensures)
 
 add-result : tie.Need-add-result
 add-result c = search needs
 
 returns-2 : tie.Need-returns-2
-returns-2 c = fresh-more _ _ _ (omega arith) (c .before .before .pre .1) (c .if1 .left)
+returns-2 c = epoch-more _ _ _ (omega arith) (c .before .before .pre .1) (c .if1 .left)
 
 pub next-epoch-spec : {M : Type 1} → statement M
 next-epoch-spec =

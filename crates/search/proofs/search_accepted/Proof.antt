@@ -14,7 +14,7 @@ use Rattle.search.proofs.search_accepted.Reads as reads
 use Rattle.search.proofs.search_accepted.Lts as lts
 use Rattle.answers.proofs.found.Reads as found-reads
 use Rattle.greedy.proofs.greedy.Reads as greedy-reads
-use Rattle.laws.proofs.clear_words.Reads as clear-words-reads
+use Rattle.scratch.proofs.clear_words.Reads as clear-words-reads
 use Rattle.laws.proofs.least.Reads as least-reads
 use Rattle.search.proofs.list_answers.Reads as list-answers-reads
 use Rattle.search.proofs.raised.Reads as raised-reads

@@ -4,9 +4,9 @@ use native.Mathlib.Omega.{arith}
 use lib.ListN.{length}
 use lib.Ieee.{ofBits, binary32}
 use borrow.Author.Needs.{needs}
 use Rattle.laws.specs.Filled.{Filled, fill-start, fill-more, fill-end}
-use Rattle.laws.proofs.clear_floats.Statement.{statement}
-use Rattle.laws.proofs.clear_floats.Tie as tie
+use Rattle.scratch.proofs.clear_floats.Statement.{statement}
+use Rattle.scratch.proofs.clear_floats.Tie as tie
 
 abbrev Inv-loop : tie.InvT-loop
 Inv-loop s₀ i₀ s i = Filled (ofBits binary32 0) s₀ s i

@@ -3,9 +3,9 @@ use Prim.Native.Nat.{_-_}
 use native.Mathlib.Omega.{arith}
 use lib.ListN.{length}
 use borrow.Author.Needs.{needs}
 use Rattle.laws.specs.Filled.{Filled, fill-start, fill-more, fill-end}
-use Rattle.laws.proofs.clear_words.Statement.{statement}
-use Rattle.laws.proofs.clear_words.Tie as tie
+use Rattle.scratch.proofs.clear_words.Statement.{statement}
+use Rattle.scratch.proofs.clear_words.Tie as tie
 
 abbrev Inv-loop : tie.InvT-loop
 Inv-loop s₀ i₀ s i = Filled 0 s₀ s i

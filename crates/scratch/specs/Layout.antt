@@ -1,0 +1,141 @@
+-- Where everything lies in the two lent slices, for n entries: each offset stands here and nowhere else. A name that ends in `At` is where a region begins,
+-- one in `End` where it ends. The theorems at the end say that the regions lie apart and together are just the room that 01 states.
+use mathlib.Core.Path.{_≡_, refl, sym, subst}
+use mathlib.Core.Logic.{_⊎_, inl, inr}
+use mathlib.Core.List.{List, [], _∷_, List·Memᴰ as Mem, List·Memᴰ·not-nil as not-nil, List·Memᴰ·cases-cons as cases}
+use Prim.Native.Nat.{ℕ, _+_, _*_, _≤_}
+use native.Mathlib.Omega.{arith}
+use Rattle.definition.specs.Refusals.{searchWords, searchFloats, buildWords, buildFloats}
+
+-- Words of a walk: the n marks from 0 on, the ids of the visited, and work
+abbrev pub visitedAt : ℕ → ℕ
+visitedAt n = n
+
+abbrev pub workAt : ℕ → ℕ
+workAt n = 2 * n
+
+abbrev pub workEnd : ℕ → ℕ
+workEnd n = 2 * n + 256
+
+-- Floats of a walk: the n distances of the visited from 0 on, and those of work
+abbrev pub workDistsAt : ℕ → ℕ
+workDistsAt n = n
+
+abbrev pub workDistsEnd : ℕ → ℕ
+workDistsEnd n = n + 256
+
+-- Words of a pool, beyond those of a walk: its ids, and the stamps of the n entries
+abbrev pub poolAt : ℕ → ℕ
+poolAt n = 3 * n + 256
+
+abbrev pub stampsAt : ℕ → ℕ
+stampsAt n = 4 * n + 256
+
+abbrev pub stampsEnd : ℕ → ℕ
+stampsEnd n = 5 * n + 256
+
+-- Floats of a pool: its distances; and behind them the factors of pruning
+abbrev pub poolDistsAt : ℕ → ℕ
+poolDistsAt n = 2 * n + 256
+
+abbrev pub factorsAt : ℕ → ℕ
+factorsAt n = 3 * n + 256
+
+abbrev pub factorsEnd : ℕ → ℕ
+factorsEnd n = 3 * n + 1006
+
+-- Words of the merge, where walks and pools were: the heads of the chains from 0 on, the seats of the listed, and a link for each word of a fresh row
+abbrev pub seatsAt : ℕ → ℕ
+seatsAt n = n
+
+abbrev pub linksAt : ℕ → ℕ
+linksAt n = 2 * n
+
+abbrev pub linksEnd : ℕ → ℕ
+linksEnd n = 2 * n + 16384
+
+-- The fresh rows of a batch, 64 words each: they outlast walks, pools and merge
+abbrev pub freshAt : ℕ → ℕ
+freshAt n = 6 * n + 16384
+
+abbrev pub freshRowAt : ℕ → ℕ → ℕ
+freshRowAt n p = 6 * n + 16384 + 64 * p
+
+abbrev pub freshEnd : ℕ → ℕ
+freshEnd n = 6 * n + 32768
+
+-- where the floats of a batch end: those beyond the factors are spare
+abbrev pub floatsEnd : ℕ → ℕ
+floatsEnd n = 4 * n + 1024
+
+-- A region, and regions that follow on one another from a place to an end, each beginning where the one before it ends
+pub record Region : Type 0 where
+  pub at : ℕ
+  pub size : ℕ
+
+abbrev lies : ℕ → ℕ → Region
+lies at size = record { at = at; size = size }
+
+pub Fills : ℕ → List Region → ℕ → Type 0
+Fills begin [] end = begin ≡ end
+Fills begin (r ∷ rs) end = (r .at ≡ begin) × Fills (begin + r .size) rs end
+
+-- so each ends before any later one begins
+fills-from : (begin end : ℕ) (rs : List Region) → Fills begin rs end → (s : Region) → Mem s rs → begin ≤ s .at
+unfolding Fills
+fills-from begin end [] f s m = absurd (not-nil m)
+fills-from begin end (r ∷ rs) f s m = go (fills-from (begin + r .size) end rs (f .1) s) (cases m)
+  where
+    go : (Mem s rs → begin + r .size ≤ s .at) → (s ≡ r) ⊎ Mem s rs → begin ≤ s .at
+    go later (inl e) = let q = f .0 in subst (λ (t : Region). begin ≤ t .at) (sym e) (omega arith)
+    go later (inr h) = let l = later h in omega arith
+
+pub fills-apart : (begin end : ℕ) (r : Region) (rs : List Region) → Fills begin (r ∷ rs) end → (s : Region) → Mem s rs → r .at + r .size ≤ s .at
+unfolding Fills
+fills-apart begin end r rs f s m = let q = f .0 in let l = fills-from (begin + r .size) end rs (f .1) s m in omega arith
+
+module _ (n : ℕ) where
+  -- marks, visited, work
+  abbrev pub searchWordRegions : List Region
+  searchWordRegions = lies 0 n ∷ lies (visitedAt n) n ∷ lies (workAt n) 256 ∷ []
+
+  -- their distances
+  abbrev pub searchFloatRegions : List Region
+  searchFloatRegions = lies 0 n ∷ lies (workDistsAt n) 256 ∷ []
+
+  -- while the fresh rows are made: a walk's, n spare, the pool, its stamps, spare, the fresh rows
+  abbrev pub freshWordRegions : List Region
+  freshWordRegions =
+      lies 0 n ∷ lies (visitedAt n) n ∷ lies (workAt n) 256 ∷ lies (workEnd n) n
+      ∷ lies (poolAt n) n ∷ lies (stampsAt n) n ∷ lies (stampsEnd n) (n + 16128) ∷ lies (freshAt n) 16384 ∷ []
+
+  -- a walk's, n spare, the pool's, the factors, spare
+  abbrev pub freshFloatRegions : List Region
+  freshFloatRegions =
+      lies 0 n ∷ lies (workDistsAt n) 256 ∷ lies (workDistsEnd n) n
+      ∷ lies (poolDistsAt n) n ∷ lies (factorsAt n) 750 ∷ lies (factorsEnd n) (n + 18) ∷ []
+
+  -- while the rows are merged: heads, seats, links, spare, the fresh rows
+  abbrev pub mergeWordRegions : List Region
+  mergeWordRegions =
+      lies 0 n ∷ lies (seatsAt n) n ∷ lies (linksAt n) 16384 ∷ lies (linksEnd n) (4 * n) ∷ lies (freshAt n) 16384 ∷ []
+
+  pub search-words-filled : Fills 0 searchWordRegions (searchWords n)
+  unfolding searchWords Fills
+  search-words-filled = (refl, (omega arith, (omega arith, omega arith)))
+
+  pub search-floats-filled : Fills 0 searchFloatRegions (searchFloats n)
+  unfolding searchFloats Fills
+  search-floats-filled = (refl, (omega arith, omega arith))
+
+  pub fresh-words-filled : Fills 0 freshWordRegions (buildWords n)
+  unfolding buildWords Fills
+  fresh-words-filled = (refl, (omega arith, (omega arith, (omega arith, (omega arith, (omega arith, (omega arith, (omega arith, omega arith))))))))
+
+  pub fresh-floats-filled : Fills 0 freshFloatRegions (buildFloats n)
+  unfolding buildFloats Fills
+  fresh-floats-filled = (refl, (omega arith, (omega arith, (omega arith, (omega arith, (omega arith, omega arith))))))
+
+  pub merge-words-filled : Fills 0 mergeWordRegions (buildWords n)
+  unfolding buildWords Fills
+  merge-words-filled = (refl, (omega arith, (omega arith, (omega arith, (omega arith, omega arith)))))

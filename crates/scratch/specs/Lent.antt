@@ -1,0 +1,8 @@
+-- The two lent slices as one thing, at one moment of a call.
+use Prim.Native.Nat.{ℕ}
+use mathlib.Core.List.{List}
+use lib.Ieee.{Float}
+
+pub record Lent : Type 0 where
+  pub words : List ℕ
+  pub floats : List Float
