@@ -36,7 +36,7 @@ pub fn distance(r: &mut Rng, _: usize) {
     let (a, b) = (bytes(), bytes());
     note(format!("length {len}"));
     let got = reads(&[&a, &b], &[], || ours::distance(&a, &b));
-    must(got == Answer { distance: probe::distance(&a, &b), ..DONE }, "distance");
+    must(ours::same(got, Answer { distance: probe::distance(&a, &b), ..DONE }), "distance");
 }
 
 pub fn medoid(r: &mut Rng, n: usize) {
@@ -52,7 +52,7 @@ pub fn medoid(r: &mut Rng, n: usize) {
     note(format!("{} pivots", pivots.len()));
     let want = probe::medoid(n, d.dim, &d.vectors, &pivots) as u32;
     let got = reads(&[&d.vectors], &[&pivots], || ours::medoid(n, d.dim, &d.vectors, &pivots));
-    must(got == Answer { id: want, ..DONE }, "medoid");
+    must(ours::same(got, Answer { id: want, ..DONE }), "medoid");
 }
 
 /// With a run of records beside the two outputs, or without one.
@@ -89,7 +89,7 @@ fn search_on(r: &mut Rng, d: &Data, table: &[u32], as_records: bool) {
     let (want_ids, want_dists): (Vec<u32>, Vec<f32>) = want.into_iter().take(k).unzip();
     let records = want_ids.iter().zip(&want_dists).map(|(&id, &distance)| Candidate { id, distance });
     let want_run: Vec<Candidate> = records.filter(|_| as_records).collect();
-    must(got == Answer { count: want_ids.len(), ..DONE }, "search: answer");
+    must(ours::same(got, Answer { count: want_ids.len(), ..DONE }), "search: answer");
     must(ids.begins(&want_ids) && dists.begins(&want_dists), "search: answers, and nothing beyond them");
     must(run.begins(&want_run), "search: records, and nothing beyond them");
     must(words.cleared(2 * n + 256) && floats.cleared(n + 256), "search: room");
@@ -134,7 +134,7 @@ pub fn batch(r: &mut Rng, n: usize) {
     let mut room = room(r, n);
     let call = ours::Build { n, dim: d.dim, vectors: &d.vectors, params: d.params, start: d.start, order: &nodes, seeds: &seeds };
     let got = reads(&[&d.vectors], &[&nodes, &seeds], || ours::batch(call, wide.lend(), room.words.lend(), room.floats.lend()));
-    must(got == DONE, "batch: answer");
+    must(ours::same(got, DONE), "batch: answer");
     must(wide.begins(&flat(&want, s)), "batch: wide table");
     must(room.cleared(n), "batch: room");
 }
@@ -149,7 +149,7 @@ pub fn open(r: &mut Rng, n: usize) {
     let mut wide = pattern(r, n * s);
     let closed = flat(&opening, degree);
     let got = reads(&[], &[&closed], || ours::open(n, degree, &closed, wide.lend()));
-    must(got == DONE, "open: answer");
+    must(ours::same(got, DONE), "open: answer");
     must(wide.begins(&flat(&opening, s)), "open: wide table");
 }
 
@@ -168,7 +168,7 @@ pub fn close(r: &mut Rng, n: usize) {
     let odd = Params { beam: r.next() as usize, extra: r.next() as usize, ..d.params };
     let call = ours::Close { n, dim: d.dim, vectors: &d.vectors, params: odd, wide: &wide };
     let got = reads(&[&d.vectors], &[&wide], || ours::close(call, closed.lend(), room.words.lend(), room.floats.lend()));
-    must(got == DONE, "close: answer");
+    must(ours::same(got, DONE), "close: answer");
     must(closed.begins(&flat(&want, degree)), "close: closed table");
     must(room.cleared(n), "close: room");
 }
@@ -190,7 +190,7 @@ pub fn build(r: &mut Rng, n: usize) {
     let call = ours::Build { n, dim: d.dim, vectors: &d.vectors, params: d.params, start: d.start, order: &order, seeds: &seeds };
     let lent = || ours::build(call, &opening, wide.lend(), closed.lend(), room.words.lend(), room.floats.lend());
     let got = reads(&[&d.vectors], &[&order, &seeds, &opening], lent);
-    must(got == DONE, "build: answer");
+    must(ours::same(got, DONE), "build: answer");
     must(wide.begins(&flat(&want_wide, s)), "build: wide table");
     must(closed.begins(&flat(&want_closed, degree)), "build: closed table");
     must(room.cleared(n), "build: room");

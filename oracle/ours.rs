@@ -1,160 +1,25 @@
 //! The static library's calls as include/fjalgrout.h has them, as safe functions over slices.
 
-#[repr(C)]
-#[derive(Clone, Copy, Debug)]
-pub struct Answer {
-    pub number: u32,
-    pub count: usize,
-    pub id: u32,
-    pub draw: u32,
-    pub distance: f32,
-}
+/// The wrapper's declarations: there is one text for Rust, which bin/face holds against the header. It is laid out by the wrapper's rules.
+#[allow(dead_code)]
+#[rustfmt::skip]
+#[path = "../wrapper/src/ffi.rs"]
+mod c;
 
-/// Field by field, the distance by its bits.
-impl PartialEq for Answer {
-    fn eq(&self, other: &Answer) -> bool {
-        let fields = |a: &Answer| (a.number, a.count, a.id, a.draw, a.distance.to_bits());
-        fields(self) == fields(other)
-    }
+pub use c::{Answer, Candidate, Params};
+
+/// Field by field, the distance by its bits: `==` tells no -0.0 from 0.0.
+pub fn same(a: Answer, b: Answer) -> bool {
+    let fields = |a: Answer| (a.number, a.count, a.id, a.draw, a.distance.to_bits());
+    fields(a) == fields(b)
 }
 
 pub const DONE: Answer = Answer { number: 0, count: 0, id: 0, draw: 0, distance: 0.0 };
-
-#[repr(C)]
-#[derive(Clone, Copy, Debug)]
-pub struct Params {
-    pub degree: usize,
-    pub beam: usize,
-    pub alpha: f32,
-    pub extra: usize,
-}
-
-#[repr(C)]
-#[derive(Clone, Copy, Debug)]
-pub struct Candidate {
-    pub id: u32,
-    pub distance: f32,
-}
 
 pub const PAD: u32 = u32::MAX;
 
 pub fn slack(degree: usize) -> usize {
     (13 * degree).div_ceil(10)
-}
-
-mod c {
-    use super::{Answer, Candidate, Params};
-    type Bytes = *const u8;
-    type Words = *const u32;
-    type WordsMut = *mut u32;
-    type FloatsMut = *mut f32;
-
-    extern "C" {
-        pub fn fjalgrout_distance(a: Bytes, a_len: usize, b: Bytes, b_len: usize) -> Answer;
-        pub fn fjalgrout_medoid(n: usize, dim: usize, vectors: Bytes, vectors_len: usize, pivots: Words, pivots_len: usize) -> Answer;
-        pub fn fjalgrout_batch(
-            n: usize,
-            dim: usize,
-            vectors: Bytes,
-            vectors_len: usize,
-            params: Params,
-            start: u32,
-            nodes: Words,
-            nodes_len: usize,
-            seeds: Words,
-            seeds_len: usize,
-            wide: WordsMut,
-            wide_len: usize,
-            words: WordsMut,
-            words_len: usize,
-            floats: FloatsMut,
-            floats_len: usize,
-        ) -> Answer;
-        pub fn fjalgrout_open(n: usize, degree: usize, opening: Words, opening_len: usize, wide: WordsMut, wide_len: usize) -> Answer;
-        pub fn fjalgrout_close(
-            n: usize,
-            dim: usize,
-            vectors: Bytes,
-            vectors_len: usize,
-            params: Params,
-            wide: Words,
-            wide_len: usize,
-            closed: WordsMut,
-            closed_len: usize,
-            words: WordsMut,
-            words_len: usize,
-            floats: FloatsMut,
-            floats_len: usize,
-        ) -> Answer;
-        pub fn fjalgrout_build(
-            n: usize,
-            dim: usize,
-            vectors: Bytes,
-            vectors_len: usize,
-            params: Params,
-            start: u32,
-            order: Words,
-            order_len: usize,
-            seeds: Words,
-            seeds_len: usize,
-            opening: Words,
-            opening_len: usize,
-            wide: WordsMut,
-            wide_len: usize,
-            closed: WordsMut,
-            closed_len: usize,
-            words: WordsMut,
-            words_len: usize,
-            floats: FloatsMut,
-            floats_len: usize,
-        ) -> Answer;
-        pub fn fjalgrout_search(
-            n: usize,
-            dim: usize,
-            vectors: Bytes,
-            vectors_len: usize,
-            degree: usize,
-            beam: usize,
-            k: usize,
-            start: u32,
-            table: Words,
-            table_len: usize,
-            query: Bytes,
-            query_len: usize,
-            words: WordsMut,
-            words_len: usize,
-            floats: FloatsMut,
-            floats_len: usize,
-            ids: WordsMut,
-            ids_len: usize,
-            dists: FloatsMut,
-            dists_len: usize,
-        ) -> Answer;
-        pub fn fjalgrout_records(
-            n: usize,
-            dim: usize,
-            vectors: Bytes,
-            vectors_len: usize,
-            degree: usize,
-            beam: usize,
-            k: usize,
-            start: u32,
-            table: Words,
-            table_len: usize,
-            query: Bytes,
-            query_len: usize,
-            words: WordsMut,
-            words_len: usize,
-            floats: FloatsMut,
-            floats_len: usize,
-            ids: WordsMut,
-            ids_len: usize,
-            dists: FloatsMut,
-            dists_len: usize,
-            run: *mut Candidate,
-            run_len: usize,
-        ) -> Answer;
-    }
 }
 
 /// What a batch or a whole build reads; for a batch, `order` is its nodes.
