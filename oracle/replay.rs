@@ -1,5 +1,5 @@
 //! Makes the fixed list of cases that crates/test_replay replays: `stdin`, and from 000's answers alone `stdout`. The proved library takes no part in it.
-//! `oracle/list` compiles and runs it.
+//! crates/test_calls/src/lib.rt says what a case is. `oracle/list` compiles and runs it.
 #[allow(dead_code)]
 mod cases;
 #[allow(dead_code)]
@@ -11,13 +11,13 @@ use diskann::probe;
 use ours::{slack, Params, PAD};
 use std::fmt::Write;
 
+// As crates/test_calls lends them.
 const LENT: u32 = 77;
 const WORDS: usize = 36_000;
 const FLOATS: usize = 3_100;
 const TABLE: usize = 6_000;
 const ANSWERS: usize = 300;
-const HEAD: usize = 26;
-/// As `replay_words::alpha` has them: 0 to 8 are accepted, 9 to 11 refused.
+/// As `named_alpha` of crates/test_calls has them, whose next is for other cases: 0 to 8 are accepted, 9 to 11 refused.
 const ALPHAS: [f32; 12] = [f32::NAN, -3.0, 0.5, 1.0, 1.2, 1.25, 2.0, 3.7, 4.0, 4.0000005, f32::INFINITY, 100.0];
 const DISTANCE: usize = 0;
 const MEDOID: usize = 1;
@@ -96,18 +96,16 @@ fn line(c: &Case, l: &Left) -> String {
 fn text(c: &Case) -> String {
     assert!(
         c.vectors.len() <= 4_096 && c.query.len() <= 300 && c.list.len() <= 1_024 && c.seeds.len() <= 1_024,
-        "a list is longer than replay's"
+        "a list is longer than test_calls has room for"
     );
     assert!(
         c.table.len().max(c.wide).max(c.closed) <= TABLE && c.words <= WORDS && c.floats <= FLOATS && c.ids.max(c.dists) <= ANSWERS,
-        "a slice is longer than replay's"
+        "a slice is longer than test_calls has room for"
     );
     let vectors: Vec<u32> = c.vectors.iter().map(|&b| b as u32).collect();
     let query: Vec<u32> = c.query.iter().map(|&b| b as u32).collect();
     let lists = [&vectors, &query, &c.list, &c.seeds, &c.table];
-    let length = HEAD + lists.iter().map(|l| l.len()).sum::<usize>();
-    let mut all: Vec<u32> = [
-        length,
+    let numbers = [
         c.kind,
         c.n,
         c.dim,
@@ -123,15 +121,9 @@ fn text(c: &Case) -> String {
         c.floats,
         c.ids,
         c.dists,
-    ]
-    .iter()
-    .map(|&x| x.min(u32::MAX as usize) as u32)
-    .collect();
-    let mut at = HEAD;
-    for l in lists {
-        all.extend([at as u32, l.len() as u32]);
-        at += l.len();
-    }
+    ];
+    let mut all: Vec<u32> = numbers.iter().map(|&x| x.min(u32::MAX as usize) as u32).collect();
+    all.extend(lists.iter().map(|l| l.len() as u32));
     lists.iter().for_each(|l| all.extend(l.iter()));
     let words: Vec<String> = all.iter().map(|&w| if w == PAD { "-".into() } else { w.to_string() }).collect();
     words.join(" ") + "\n"
@@ -444,7 +436,7 @@ fn main() {
     let stdout: String = all.iter().map(|(c, l)| line(c, l)).collect();
     let done = all.iter().filter(|(_, l)| l.number == 0).count();
     let words = stdin.split_whitespace().count();
-    assert!(words <= 65_536, "more words than replay reads");
+    assert!(words <= 65_536, "more words than test_calls reads");
     println!("{} cases, {done} done and {} refused, {words} words in {} bytes", all.len(), all.len() - done, stdin.len());
     std::fs::write(format!("{dir}/stdin"), stdin).unwrap();
     std::fs::write(format!("{dir}/stdout"), stdout).unwrap();

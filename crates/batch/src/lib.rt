@@ -1,17 +1,18 @@
 // Part 6 whole: a batch, on accepted input and as the public call.
 ghost use Rattle.definition.specs.Outcome.{BatchMeets};
+ghost use Rattle.given.specs.Given.{given};
+ghost use Rattle.given.specs.Listing.{listing};
+ghost use Rattle.given.specs.Held.{held};
 ghost use Rattle.batch.specs.Says.{BatchReady, BatchRun};
 use definition::Answer;
 use definition::Params;
+use given::Ground;
 
 // A batch that no check refuses: the fresh rows of all listed nodes from the rows as they are, and only then the merge.
-// The marks of the walks lie at 0 .. n of the words, those of the pool at 4n + 256 .. 5n + 256: both begin at 0.
+// The marks of the walks and the stamps of the pools begin at 0.
 pub fn run_batch(
-    n: usize,
-    dim: usize,
+    g: Ground,
     vectors: &[u8],
-    params: Params,
-    slack: usize,
     start: u32,
     nodes: &[u32],
     seeds: &[u32],
@@ -19,27 +20,18 @@ pub fn run_batch(
     words: &mut [u32],
     floats: &mut [f32],
 )
-    requires { ⌜ BatchReady n dim (now vectors) params slack start (now nodes) (now seeds) (now wide) (now words) (now floats) ⌝ }
-    ensures { λ _. ⌜ BatchRun n dim (now (vectors .entry)) params start (now (nodes .entry)) (now (seeds .entry)) (now (wide .entry)) (now (words .entry)) (now (floats .entry)) (now (wide .exit)) (now (words .exit)) (now (floats .exit)) ⌝ }
+    requires { ⌜ BatchReady (given g (now vectors)) (listing start (now nodes) (now seeds)) (held (now wide) (now words) (now floats)) ⌝ }
+    ensures { λ _. ⌜ BatchRun (given g (now (vectors .entry))) (listing start (now (nodes .entry)) (now (seeds .entry)))
+        (held (now (wide .entry)) (now (words .entry)) (now (floats .entry)))
+        (held (now (wide .exit)) (now (words .exit)) (now (floats .exit))) ⌝ }
 {
-    let a = 4 * n + 256;
-    let e = a + n;
+    let n = g.n;
+    let a = scratch::stamps_at(n);
+    let e = scratch::stamps_end(n);
     scratch::clear_words(&mut words[0..n]);
     scratch::clear_words(&mut words[a..e]);
-    batch_fresh::fresh_rows(
-        words,
-        floats,
-        vectors,
-        wide,
-        n,
-        dim,
-        slack,
-        params,
-        start,
-        nodes,
-        seeds,
-    );
-    batch_merge::merge(n, dim, vectors, params, slack, nodes, wide, words, floats);
+    batch_fresh::fresh_rows(g, vectors, start, nodes, seeds, wide, words, floats);
+    batch_merge::merge(g, vectors, nodes, wide, words, floats);
 }
 
 // One batch of the wide table, or the number of the refusal.
@@ -56,7 +48,18 @@ pub fn batch(
     floats: &mut [f32],
 ) -> Answer
     ensures { λ r. ⌜ BatchMeets
-        (record { n = n; dim = dim; vectors = now (vectors .entry); params = params; start = start; nodes = now (nodes .entry); seeds = now (seeds .entry); wide = now (wide .entry); words = now (words .entry); floats = now (floats .entry) })
+        (record {
+          n = n;
+          dim = dim;
+          vectors = now (vectors .entry);
+          params = params;
+          start = start;
+          nodes = now (nodes .entry);
+          seeds = now (seeds .entry);
+          wide = now (wide .entry);
+          words = now (words .entry);
+          floats = now (floats .entry);
+        })
         (record { answer = r; wide = now (wide .exit); words = now (words .exit); floats = now (floats .exit) }) ⌝ }
 {
     let number = checks_number::batch_number(
@@ -74,20 +77,14 @@ pub fn batch(
     if number != 0 {
         return answers::refused(number);
     }
-    let slack = checks::limits::slack(params.degree);
-    run_batch(
+    let slack = table::slack(params.degree);
+    let g = Ground {
         n,
         dim,
-        vectors,
-        params,
         slack,
-        start,
-        nodes,
-        seeds,
-        wide,
-        words,
-        floats,
-    );
+        params,
+    };
+    run_batch(g, vectors, start, nodes, seeds, wide, words, floats);
     scratch::clear_room(n, words, floats);
     answers::done()
 }

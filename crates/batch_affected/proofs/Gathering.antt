@@ -1,81 +1,98 @@
--- One node's ids.
+-- One node's ids: its seat gives the row that is read, whose ids go into the list first; then those of its chain. Each leaves what the next asks.
 use Prim.Native.Nat.{ℕ, _+_, _-_, _*_, _≤_, _<_}
 use native.Mathlib.Omega.{arith}
 use mathlib.Core.Path.{_≡_, refl, sym, ap, _∙_, subst}
 use mathlib.Core.List.{List, []}
-use borrow.Author.Tests.{eq-eqb, ne-eqb}
 use lib.ListN.{length, getD, take, drop}
-use Rattle.definition.specs.Tables.{pad}
-use Rattle.laws.specs.Listed.{listedAt}
-use Rattle.laws.specs.Rising.{none}
+use Rattle.definition.specs.Tables.{pad, row, ids}
 use Rattle.definition.specs.Batch.{Setting, mergedIds}
 use Rattle.definition.specs.Slack.{slack}
+use Rattle.laws.specs.Listed.{freshWidth}
+use Rattle.laws.specs.Rising.{none}
+use Rattle.scratch.specs.Layout.{freshAt, freshRowAt, seatsAt}
+use Rattle.given.specs.Given.{widest}
+use Rattle.given.specs.Fresh.{Merging, entriesOf, freshRow, listedIn}
 use Rattle.batch_ids.specs.Grown.{grown, wanted}
 use Rattle.batch_ids.specs.Says.{Rises, Grew}
 use Rattle.batch_chains.specs.Last.{seat}
-use Rattle.batch_chains.specs.Says.{Laid, Chained, Once, sources, NamingAdded}
-use Rattle.batch_affected.specs.Naming.{baseWords, base-words, base-length, seat-within, gathered}
-use Rattle.batch_affected.specs.Says.{Ready, Gathered}
+use Rattle.batch_chains.specs.Says.{Chains, sources, NamingAdded}
+use Rattle.batch_affected.specs.Base.{baseWords, baseOf, words-wide, words-listed, base-words, base-length, seat-within}
+use Rattle.batch_affected.specs.Naming.{gathered}
+use Rattle.batch_affected.specs.Says.{mergedMost, Ready, Gathered}
 
-pub base-wide : (words wide : List ℕ) (fresh s node width : ℕ) → s ≡ 0 → take ((node * width + width) - node * width) (drop (node * width) wide) ≡ baseWords words wide fresh s node width
-unfolding baseWords
-base-wide words wide fresh s node width e = let q : (node * width + width) - node * width ≡ width = omega arith in rw (q, eq-eqb s 0 e) refl
+-- ---- the row that is read
+pub base-wide : (wide fresh : List ℕ) (s node width : ℕ) → s ≡ 0
+    → take ((node * width + width) - node * width) (drop (node * width) wide) ≡ baseWords s fresh (row width wide node)
+unfolding row
+base-wide wide fresh s node width e =
+    let q : (node * width + width) - node * width ≡ width = omega arith in
+    ap (λ (k : ℕ). take k (drop (node * width) wide)) q ∙ sym (words-wide fresh e)
 
-pub base-fresh : (words wide : List ℕ) (fresh s node width : ℕ) → (s ≡ 0 → ⊥) → take ((fresh + (s - 1) * 64 + 64) - (fresh + (s - 1) * 64)) (drop (fresh + (s - 1) * 64) words) ≡ baseWords words wide fresh s node width
-unfolding baseWords
-base-fresh words wide fresh s node width n = let q : (fresh + (s - 1) * 64 + 64) - (fresh + (s - 1) * 64) ≡ 64 = omega arith in rw (q, ne-eqb s 0 n) refl
+pub base-fresh : (words wide : List ℕ) (n s a : ℕ) → (s ≡ 0 → ⊥) → a ≡ freshRowAt n (s - 1)
+    → take ((a + freshWidth) - a) (drop a words) ≡ baseWords s (freshRow n (s - 1) words) wide
+base-fresh words wide n s a h e = ap (λ (k : ℕ). take ((k + freshWidth) - k) (drop k words)) e ∙ sym (words-listed wide h)
 
+-- ---- what each call asks, and what is left
 pad-big : pad ≡ 4294967295
 unfolding pad
 pad-big = refl
 
-pub rises-none : (l : List ℕ) → Rises l 0
+rises-none : (l : List ℕ) → Rises l 0
 rises-none l = record { fits = omega arith; asc = none }
 
-pub base-asks-at : (words nodes : List ℕ) (n links fresh node width : ℕ) (r : Ready words nodes n links fresh) (h : node < n) (thin : width ≤ 84) (size : ℕ) (has : node * width + width ≤ size) (own s : ℕ) (o : own ≡ node) (e : s ≡ getD words (n + own) 0)
-    → (own < 65536) × (width ≤ 84) × (s ≤ 256) × (fresh + s * 64 ≤ length words) × (own * width + width ≤ size)
-base-asks-at words nodes n links fresh node width r h thin size has own s o e =
-    let a = r .few in
-    let b = r .laid .nodes in
-    let c = r .laid .high in
-    let d = seat-within nodes node in
-    let q : s ≡ seat nodes node 0 = e ∙ ap (λ (k : ℕ). getD words (n + k) 0) o ∙ r .seats node h in
-    let p : own * width ≡ node * width = ap (λ (k : ℕ). k * width) o in
-    (omega arith, thin, omega arith, omega arith, omega arith)
+module _ {f : Merging} {node width : ℕ} (r : Ready f) (h : node < f .n) (thin : width ≤ widest) where
+  module _ (own s : ℕ) (o : own ≡ node) (e : s ≡ getD (f .words) (seatsAt (f .n) + own) 0) where
+    its-seat : s ≡ seat (f .nodes) node 0
+    its-seat = e ∙ ap (λ (k : ℕ). getD (f .words) (seatsAt (f .n) + k) 0) o ∙ r .seats node h
 
-module _ (words wide nodes : List ℕ) (n links fresh node width : ℕ) (r : Ready words nodes n links fresh) (h : node < n) (thin : width ≤ 84) (has : node * width + width ≤ length wide) where
-  module _ (own s : ℕ) (o : own ≡ node) (e : s ≡ getD words (n + own) 0) where
-    its-seat : s ≡ seat nodes node 0
-    its-seat = e ∙ ap (λ (k : ℕ). getD words (n + k) 0) o ∙ r .seats node h
+    pub base-asks : (size : ℕ) → node * width + width ≤ size
+        → ((f .n ≤ 65536) × (own < f .n) × (width ≤ widest) × (s ≤ 256))
+        × ((freshAt (f .n) + s * freshWidth ≤ length (f .words)) × (own * width + width ≤ size))
+    base-asks size has =
+        let a = r .few in
+        let b = r .chains .laid .nodes in
+        let c = r .chains .laid .high in
+        let d = seat-within (f .nodes) node in
+        let q = its-seat in
+        let p : own * width ≡ node * width = ap (λ (k : ℕ). k * width) o in
+        ((b, omega arith, thin, omega arith), (omega arith, omega arith))
 
     -- the row that is read, and the two walks
-    module _ (bw : List ℕ) (is : bw ≡ baseWords words wide fresh s own width) where
-      pub short : length bw ≤ 84
-      short = let l = base-length words wide fresh s own width thin in subst (λ (z : List ℕ). length z ≤ 84) (sym is) l
+    module _ (wide bw : List ℕ) (is : bw ≡ baseOf f wide width own s) where
+      short : length bw ≤ widest
+      short = let l = base-length f wide width own s thin in subst (λ (z : List ℕ). length z ≤ widest) (sym is) l
 
-      pub row-asks : (list : List ℕ) → 340 ≤ length list → (0 + length bw ≤ length list) × Rises list 0
+      pub row-asks : (list : List ℕ) → mergedMost ≤ length list → (0 + length bw ≤ length list) × Rises list 0
       row-asks list k = let l = short in (omega arith, rises-none list)
 
-      module _ (l₀ l₁ : List ℕ) (count : ℕ) (g : Grew bw node l₀ l₁ 0 count) where
-        pub naming-asks : 340 ≤ length l₁
-            → ((node < n) × (length nodes ≤ 256) × (count + length nodes ≤ length l₁)) × (Laid n links fresh (length nodes * 64) (length words) × (Chained words n links fresh (length nodes * 64) × (Once words n fresh (length nodes * 64) × Rises l₁ count)))
+      module _ {l₀ l₁ : List ℕ} {count : ℕ} (g : Grew bw node l₀ l₁ 0 count) where
+        pub naming-asks : mergedMost ≤ length l₁
+            → ((node < f .n) × (length (f .nodes) ≤ 256) × (count + length (f .nodes) ≤ length l₁)) × (Chains f × Rises l₁ count)
         naming-asks k =
             let a = g .most in
             let l = short in
-            let f = r .few in
-            ((h, f, omega arith), (r .laid, (r .chained, (r .once, g .holds .rises))))
+            let few = r .few in
+            ((h, few, omega arith), (r .chains, g .holds .rises))
 
-        pub all-gathered : (l₂ : List ℕ) (m : ℕ) → NamingAdded words fresh (length nodes * 64) nodes node l₁ l₂ count m → Gathered words wide nodes fresh node width l₂ m
-        all-gathered l₂ m a =
+        -- the chain's nodes after the base's ids
+        named : (st : Setting) → width ≡ slack (st .degree)
+            → grown (wanted node (sources f node (entriesOf (f .nodes)))) (grown (wanted node bw) []) ≡ mergedIds st wide (listedIn f) node
+        named st e =
+            let big : f .n ≤ 65536 = r .chains .laid .nodes in
+            let eq : bw ≡ baseOf f wide width node s = is ∙ ap (λ (k : ℕ). baseOf f wide width k s) o in
+            gathered f node (λ q. omega (arith, pad-big)) (r .chains .laid .high) st wide bw (λ p g q. let y = r .real p g in omega (arith, pad-big))
+            (base-words st f wide width node e s its-seat ∙ ap ids (sym eq))
+
+        pub all-gathered : {l₂ : List ℕ} {m : ℕ} → NamingAdded f node count l₁ l₂ m → Gathered f wide width node l₂ m
+        all-gathered a =
             let b = g .most in
             let c = a .most in
             let l = short in
-            let f = r .few in
-            record { is = λ st e. record { is = a .holds .is ∙ ap (grown (wanted node (sources words fresh (length nodes * 64) nodes node))) (g .holds .is) ∙ named st e; rises = a .holds .rises }; most = omega arith }
-          where
-            named : (st : Setting) → width ≡ slack (st .degree) → grown (wanted node (sources words fresh (length nodes * 64) nodes node)) (grown (wanted node bw) []) ≡ mergedIds st wide (listedAt nodes (drop fresh words)) node
-            named st e =
-                let big : n ≤ 65536 = r .laid .nodes in
-                let eq : bw ≡ baseWords words wide fresh s node width = is ∙ ap (λ (k : ℕ). baseWords words wide fresh s k width) o in
-                gathered words fresh nodes node st wide bw (λ q. omega (arith, pad-big)) (r .laid .high) (λ p g q. let y = r .real p g in omega (arith, pad-big))
-                (base-words st words wide nodes fresh node s width its-seat e ∙ ap Rattle.definition.specs.Tables.ids (sym eq))
+            let few = r .few in
+            record {
+              is = λ st e. record {
+                is = a .holds .is ∙ ap (grown (wanted node (sources f node (entriesOf (f .nodes))))) (g .holds .is) ∙ named st e;
+                rises = a .holds .rises;
+              };
+              most = omega arith;
+            }

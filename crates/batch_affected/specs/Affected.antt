@@ -10,19 +10,24 @@ use lib.ListN.{length, getD, drop}
 use Rattle.definition.specs.Lists.{isIn, keep, rising}
 use Rattle.definition.specs.Tables.{pad, ids}
 use Rattle.definition.specs.Batch.{Setting, Listed, naming, isListed, affected, base, wideRow, wideIds, mergedIds}
-use Rattle.laws.specs.Listed.{listedAt}
+use Rattle.laws.specs.Listed.{freshWidth, listedAt}
 use Rattle.laws.specs.Members.{Same}
+use Rattle.scratch.specs.Layout.{freshAt}
+use Rattle.given.specs.Fresh.{Merging, entry, entriesOf, listedIn}
 use Rattle.batch_chains.specs.Last.{last, named, seat}
-use Rattle.batch_chains.specs.Says.{entry, sources}
+use Rattle.batch_chains.specs.Says.{sources}
 use Rattle.batch_affected.specs.Naming.{sources-naming}
 
 -- the seat says whether it is listed
 pub seat-listed : (nodes t : List ℕ) (i k : ℕ) → isListed (listedAt nodes t) i ≡ not (eqb (seat nodes i k) 0)
 unfolding isListed isIn listedAt seat
 seat-listed [] t i k = refl
-seat-listed (u ∷ us) t i k = go (eqb i u) (seat-listed us (drop 64 t) i (suc k))
+seat-listed (u ∷ us) t i k = go (eqb i u) (seat-listed us (drop freshWidth t) i (suc k))
   where
-    go : (b : Bool) → isListed (listedAt us (drop 64 t)) i ≡ not (eqb (seat us i (suc k)) 0) → (b || isListed (listedAt us (drop 64 t)) i) ≡ not (eqb (cond b (suc k) (seat us i (suc k))) 0)
+    later : Bool
+    later = isListed (listedAt us (drop freshWidth t)) i
+
+    go : (b : Bool) → later ≡ not (eqb (seat us i (suc k)) 0) → (b || later) ≡ not (eqb (cond b (suc k) (seat us i (suc k))) 0)
     go true h = let ne : suc k ≡ 0 → ⊥ = λ e. omega arith in rw (ne-eqb (suc k) 0 ne) refl
     go false h = h
 
@@ -40,7 +45,8 @@ unfolding named last
 named-empty f i zero = refl
 named-empty f i (suc m) = go (eqb (f m) i) (named-empty f i m)
   where
-    go : (b : Bool) → eqb (length (named f i m)) 0 ≡ eqb (last f i m) 0 → eqb (length (cond b (m ∷ named f i m) (named f i m))) 0 ≡ eqb (cond b (suc m) (last f i m)) 0
+    go : (b : Bool) → eqb (length (named f i m)) 0 ≡ eqb (last f i m) 0
+        → eqb (length (cond b (m ∷ named f i m) (named f i m))) 0 ≡ eqb (cond b (suc m) (last f i m)) 0
     go true h =
         let n : suc (length (named f i m)) ≡ 0 → ⊥ = λ e. omega arith in
         let k : suc m ≡ 0 → ⊥ = λ e. omega arith in
@@ -52,22 +58,25 @@ map-size g [] = refl
 map-size g (x ∷ xs) = ap suc (map-size g xs)
 
 -- the chain says whether it is named
-pub affected-is : (w : List ℕ) (fresh : ℕ) (nodes : List ℕ) (i : ℕ) → (i ≡ pad → ⊥) → fresh + length nodes * 64 ≤ length w
-    → affected (listedAt nodes (drop fresh w)) i ≡ (not (eqb (seat nodes i 0) 0) || not (eqb (last (entry w fresh) i (length nodes * 64)) 0))
+pub affected-is : (f : Merging) (i : ℕ) → (i ≡ pad → ⊥) → freshAt (f .n) + entriesOf (f .nodes) ≤ length (f .words)
+    → affected (listedIn f) i ≡ (not (eqb (seat (f .nodes) i 0) 0) || not (eqb (last (entry (f .n) (f .words)) i (entriesOf (f .nodes))) 0))
 unfolding affected sources
-affected-is w fresh nodes i id fits =
-    let chain : eqb (length (naming (listedAt nodes (drop fresh w)) i)) 0 ≡ eqb (last (entry w fresh) i (length nodes * 64)) 0 =
-    sym (same-empty _ _ (sources-naming w fresh nodes i id fits))
-    ∙ ap (λ (k : ℕ). eqb k 0) (map-size (λ e. getD nodes (e / 64) 0) (named (entry w fresh) i (length nodes * 64)))
-    ∙ named-empty (entry w fresh) i (length nodes * 64) in
-    rw (seat-listed nodes (drop fresh w) i 0, chain) refl
+affected-is f i id fits =
+    let at = entry (f .n) (f .words) in
+    let m = entriesOf (f .nodes) in
+    let chain : eqb (length (naming (listedIn f) i)) 0 ≡ eqb (last (entry (f .n) (f .words)) i (entriesOf (f .nodes))) 0 =
+    sym (same-empty _ _ (sources-naming f i id fits))
+    ∙ ap (λ (k : ℕ). eqb k 0) (map-size (λ e. getD (f .nodes) (e / freshWidth) 0) (named at i m))
+    ∙ named-empty at i m in
+    rw (seat-listed (f .nodes) (drop (freshAt (f .n)) (f .words)) i 0, chain) refl
 
 -- ---- the merged ids of a node depend on its own row of the wide table alone
-base-alone : (g : Setting) (wide wide′ : List ℕ) (ls : List Listed) (i : ℕ) → wideRow g wide i ≡ wideRow g wide′ i → base g wide ls i ≡ base g wide′ ls i
-unfolding base wideIds
-base-alone g wide wide′ [] i e = ap ids e
-base-alone g wide wide′ (l ∷ ls) i e = ap (cond (eqb i (l .node)) (l .fresh)) (base-alone g wide wide′ ls i e)
+module _ (g : Setting) (wide wide′ : List ℕ) where
+  base-alone : (ls : List Listed) (i : ℕ) → wideRow g wide i ≡ wideRow g wide′ i → base g wide ls i ≡ base g wide′ ls i
+  unfolding base wideIds
+  base-alone [] i e = ap ids e
+  base-alone (l ∷ ls) i e = ap (cond (eqb i (l .node)) (l .fresh)) (base-alone ls i e)
 
-pub merged-alone : (g : Setting) (wide wide′ : List ℕ) (ls : List Listed) (i : ℕ) → wideRow g wide i ≡ wideRow g wide′ i → mergedIds g wide ls i ≡ mergedIds g wide′ ls i
-unfolding mergedIds
-merged-alone g wide wide′ ls i e = ap (λ (b : List ℕ). rising (keep (λ w. not (eqb w i)) (b ++ naming ls i))) (base-alone g wide wide′ ls i e)
+  pub merged-alone : (ls : List Listed) (i : ℕ) → wideRow g wide i ≡ wideRow g wide′ i → mergedIds g wide ls i ≡ mergedIds g wide′ ls i
+  unfolding mergedIds
+  merged-alone ls i e = ap (λ (b : List ℕ). rising (keep (λ w. not (eqb w i)) (b ++ naming ls i))) (base-alone ls i e)

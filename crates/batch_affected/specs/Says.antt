@@ -2,25 +2,28 @@
 use Prim.Native.Nat.{ℕ, _+_, _*_, _≤_, _<_}
 use mathlib.Core.Path.{_≡_}
 use mathlib.Core.List.{List}
-use lib.ListN.{length, getD, drop}
+use lib.ListN.{length, getD}
 use Rattle.definition.specs.Batch.{Setting, mergedIds}
 use Rattle.definition.specs.Slack.{slack}
-use Rattle.laws.specs.Listed.{listedAt}
+use Rattle.laws.specs.Words.{Below}
+use Rattle.scratch.specs.Layout.{seatsAt}
+use Rattle.given.specs.Fresh.{Merging, listedIn}
 use Rattle.batch_ids.specs.Says.{Holds}
 use Rattle.batch_chains.specs.Last.{seat}
-use Rattle.batch_chains.specs.Says.{Laid, Chained, Once}
+use Rattle.batch_chains.specs.Says.{Chains}
 
--- the scratch when all chains are made and all listed nodes have their seats: heads 0 .. n, seats n .. 2n
-pub record Ready (words nodes : List ℕ) (n links fresh : ℕ) : Type 0 where
-  pub few : length nodes ≤ 256
-  pub real : (p : ℕ) → p < length nodes → getD nodes p 0 < n
-  pub two : n + n ≤ links
-  pub laid : Laid n links fresh (length nodes * 64) (length words)
-  pub chained : Chained words n links fresh (length nodes * 64)
-  pub once : Once words n fresh (length nodes * 64)
-  pub seats : (i : ℕ) → i < n → getD words (n + i) 0 ≡ seat nodes i 0
+-- how many merged ids a node can have: the words of its base, and the listed nodes
+abbrev pub mergedMost : ℕ
+mergedMost = 340
 
--- the merged ids of one node, whatever else the setting says
-pub record Gathered (words wide nodes : List ℕ) (fresh node width : ℕ) (l : List ℕ) (r : ℕ) : Type 0 where
-  pub is : (g : Setting) → width ≡ slack (g .degree) → Holds l r (mergedIds g wide (listedAt nodes (drop fresh words)) node)
-  pub most : r ≤ 340
+-- the words when all chains are made and all listed nodes have their seats
+pub record Ready (f : Merging) : Type 0 where
+  pub few : length (f .nodes) ≤ 256
+  pub real : Below (f .n) (f .nodes)
+  pub chains : Chains f
+  pub seats : (i : ℕ) → i < f .n → getD (f .words) (seatsAt (f .n) + i) 0 ≡ seat (f .nodes) i 0
+
+-- the merged ids of one node, whatever else the setting says: the first r of the list
+pub record Gathered (f : Merging) (wide : List ℕ) (width node : ℕ) (l : List ℕ) (r : ℕ) : Type 0 where
+  pub is : (g : Setting) → width ≡ slack (g .degree) → Holds l r (mergedIds g wide (listedIn f) node)
+  pub most : r ≤ mergedMost

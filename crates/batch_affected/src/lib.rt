@@ -1,21 +1,30 @@
 // Part 6, the merge: the ids of one affected node.
 ghost use mathlib.Core.Path.{_≡_};
 ghost use Prim.Native.Nat.{ℕ, _+_, _-_, _*_, _≤_, _<_};
-ghost use lib.ListN.{length, getD};
-ghost use Rattle.batch_affected.specs.Naming.{baseWords};
-ghost use Rattle.batch_affected.specs.Says.{Ready, Gathered};
+ghost use lib.ListN.{length};
+ghost use Rattle.definition.specs.Tables.{row};
+ghost use Rattle.laws.specs.Listed.{freshWidth};
+ghost use Rattle.scratch.specs.Layout.{freshAt};
+ghost use Rattle.given.specs.Given.{widest};
+ghost use Rattle.given.specs.Fresh.{merging, freshRow};
+ghost use Rattle.batch_affected.specs.Base.{baseWords};
+ghost use Rattle.batch_affected.specs.Says.{mergedMost, Ready, Gathered};
+
+// How many merged ids a node can have: the words of its base, and the listed nodes.
+pub const MERGED: usize = 340;
 
 // The base of a node: its fresh row if it was listed, otherwise its row of the wide table. `seat` is one more than its place among the listed, 0 for none.
 pub fn base<'a>(
     words: &'a [u32],
     wide: &'a [u32],
-    fresh: usize,
+    n: usize,
     seat: usize,
     node: usize,
     slack: usize,
 ) -> &'a [u32]
-    requires { ⌜ (node < 65536) × (slack ≤ 84) × (seat ≤ 256) × (fresh + seat * 64 ≤ length (now words)) × (node * slack + slack ≤ length (now wide)) ⌝ }
-    ensures { λ r. ⌜ now r ≡ baseWords (now (words .entry)) (now (wide .entry)) fresh seat node slack ⌝ }
+    requires { ⌜ (n ≤ 65536) × (node < n) × (slack ≤ widest) × (seat ≤ 256) ⌝ }
+    requires { ⌜ (freshAt n + seat * freshWidth ≤ length (now words)) × (node * slack + slack ≤ length (now wide)) ⌝ }
+    ensures { λ r. ⌜ now r ≡ baseWords seat (freshRow n (seat - 1) (now (words .entry))) (row slack (now (wide .entry)) node) ⌝ }
 {
     if seat == 0 {
         let a = node * slack;
@@ -23,8 +32,8 @@ pub fn base<'a>(
         &wide[a..e]
     } else {
         let p = seat - 1;
-        let a = fresh + p * 64;
-        let e = a + 64;
+        let a = scratch::fresh_row_at(n, p);
+        let e = a + scratch::FRESH_WIDTH;
         &words[a..e]
     }
 }
@@ -34,21 +43,19 @@ pub fn gather_node<'a>(
     words: &'a [u32],
     wide: &'a [u32],
     n: usize,
-    links: usize,
-    fresh: usize,
     nodes: &[u32],
     node: u32,
     slack: usize,
     list: &mut [u32],
 ) -> usize
-    requires { ⌜ (node < n) × (slack ≤ 84) × (340 ≤ length (now list)) × (node * slack + slack ≤ length (now wide)) ⌝ }
-    requires { ⌜ Ready (now words) (now nodes) n links fresh ⌝ }
-    ensures { λ r. ⌜ Gathered (now (words .entry)) (now (wide .entry)) (now (nodes .entry)) fresh node slack (now (list .exit)) r ⌝ }
+    requires { ⌜ (node < n) × (slack ≤ widest) × (mergedMost ≤ length (now list)) × (node * slack + slack ≤ length (now wide)) ⌝ }
+    requires { ⌜ Ready (merging n (now nodes) (now words)) ⌝ }
+    ensures { λ r. ⌜ Gathered (merging n (now (nodes .entry)) (now (words .entry))) (now (wide .entry)) slack node (now (list .exit)) r ⌝ }
 {
-    let own = batch_ids::index_of(node);
+    let own = table::index_of(node);
     let at = n + own;
-    let seat = batch_ids::index_of(words[at]);
-    let row = base(words, wide, fresh, seat, own, slack);
+    let seat = table::index_of(words[at]);
+    let row = base(words, wide, n, seat, own, slack);
     let count = batch_ids::add_row(row, node, list, 0);
-    batch_chains::add_naming(words, n, links, fresh, nodes, node, list, count)
+    batch_chains::add_naming(words, n, nodes, node, list, count)
 }

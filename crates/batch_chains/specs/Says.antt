@@ -1,49 +1,57 @@
--- Chains through the scratch: heads 0 .. n, links from `links` on, the entries of the fresh rows from `fresh` on, 64 to a row.
+-- Chains through the lent words, where scratch lays them: the heads of the n ids from 0 on, then the links, one for each entry of the fresh rows.
 use Prim.Native.Nat.{ℕ, _+_, _/_, _≤_, _<_}
 use mathlib.Core.Path.{_≡_}
 use mathlib.Core.List.{List, map}
 use lib.ListN.{length, getD, take, set}
+use Rattle.laws.specs.Listed.{freshWidth}
+use Rattle.scratch.specs.Layout.{linksAt, linksEnd, freshAt}
+use Rattle.given.specs.Fresh.{Merging, entry, entriesOf}
 use Rattle.batch_ids.specs.Grown.{grown, wanted}
 use Rattle.batch_ids.specs.Says.{Holds}
 use Rattle.batch_chains.specs.Last.{last, named, seat}
 
--- entry e of the fresh rows
-abbrev pub entry : List ℕ → ℕ → ℕ → ℕ
-entry words fresh e = getD words (fresh + e) 0
-
--- where everything lies
-pub record Laid (n links fresh m size : ℕ) : Type 0 where
+-- m entries of the fresh rows lie in `size` words, and each has a link
+pub record Laid (n m size : ℕ) : Type 0 where
   pub nodes : n ≤ 65536
-  pub entries : m ≤ 16384
-  pub low : n ≤ links
-  pub mid : links + m ≤ fresh
-  pub high : fresh + m ≤ size
+  pub entries : linksAt n + m ≤ linksEnd n
+  pub high : freshAt n + m ≤ size
 
-pub record OneLinked (w₀ w : List ℕ) (n links fresh e : ℕ) : Type 0 where
-  pub past : n ≤ entry w₀ fresh e → w ≡ w₀
-  pub linked : entry w₀ fresh e < n → w ≡ set (set w₀ (links + e) (getD w₀ (entry w₀ fresh e) 0)) (entry w₀ fresh e) (e + 1)
+pub record OneLinked (n e : ℕ) (w₀ w : List ℕ) : Type 0 where
+  pub past : n ≤ entry n w₀ e → w ≡ w₀
+  pub linked : entry n w₀ e < n → w ≡ set (set w₀ (linksAt n + e) (getD w₀ (entry n w₀ e) 0)) (entry n w₀ e) (e + 1)
 
 -- the chains of the first m entries
-pub record Chained (w : List ℕ) (n links fresh m : ℕ) : Type 0 where
-  pub heads : (i : ℕ) → i < n → getD w i 0 ≡ last (entry w fresh) i m
-  pub nexts : (e : ℕ) → e < m → entry w fresh e < n → getD w (links + e) 0 ≡ last (entry w fresh) (entry w fresh e) e
+pub record Chained (n m : ℕ) (w : List ℕ) : Type 0 where
+  pub heads : (i : ℕ) → i < n → getD w i 0 ≡ last (entry n w) i m
+  pub nexts : (e : ℕ) → e < m → entry n w e < n → getD w (linksAt n + e) 0 ≡ last (entry n w) (entry n w e) e
 
-pub record Linked (w₀ w : List ℕ) (n links fresh m : ℕ) : Type 0 where
-  pub chained : Chained w n links fresh m
-  pub between : (k : ℕ) → n ≤ k → k < links → getD w k 0 ≡ getD w₀ k 0
-  pub above : (k : ℕ) → links + m ≤ k → getD w k 0 ≡ getD w₀ k 0
+-- only heads and links differ
+pub record Kept (n m : ℕ) (w₀ w : List ℕ) : Type 0 where
+  pub between : (k : ℕ) → n ≤ k → k < linksAt n → getD w k 0 ≡ getD w₀ k 0
+  pub above : (k : ℕ) → linksAt n + m ≤ k → getD w k 0 ≡ getD w₀ k 0
+
+pub record Linked (n m : ℕ) (w₀ w : List ℕ) : Type 0 where
+  pub chained : Chained n m w
+  pub kept : Kept n m w₀ w
 
 -- no id stands twice in a fresh row
-pub record Once (w : List ℕ) (n fresh m : ℕ) : Type 0 where
-  pub apart : (a b : ℕ) → a < b → b < m → a / 64 ≡ b / 64 → entry w fresh a ≡ entry w fresh b → n ≤ entry w fresh b
+pub record Once (n m : ℕ) (w : List ℕ) : Type 0 where
+  pub apart : (a b : ℕ) → a < b → b < m → a / freshWidth ≡ b / freshWidth → entry n w a ≡ entry n w b → n ≤ entry n w b
 
--- the listed nodes whose fresh row names i, by the last row first
-unfoldable pub sources : List ℕ → ℕ → ℕ → List ℕ → ℕ → List ℕ
-sources w fresh m nodes i = map (λ e. getD nodes (e / 64) 0) (named (entry w fresh) i m)
+-- the chains of all entries of the listed nodes' rows
+pub record Chains (f : Merging) : Type 0 where
+  pub laid : Laid (f .n) (entriesOf (f .nodes)) (length (f .words))
+  pub chained : Chained (f .n) (entriesOf (f .nodes)) (f .words)
+  pub once : Once (f .n) (entriesOf (f .nodes)) (f .words)
 
-pub record NamingAdded (w : List ℕ) (fresh m : ℕ) (nodes : List ℕ) (node : ℕ) (l₀ l : List ℕ) (len r : ℕ) : Type 0 where
-  pub holds : Holds l r (grown (wanted node (sources w fresh m nodes node)) (take len l₀))
-  pub most : r ≤ len + length nodes
+-- the listed nodes that name i in the first m entries, by the last row first
+unfoldable pub sources : Merging → ℕ → ℕ → List ℕ
+sources f i m = map (λ e. getD (f .nodes) (e / freshWidth) 0) (named (entry (f .n) (f .words)) i m)
+
+-- all of them are put among the first len of a list, after which there are r
+pub record NamingAdded (f : Merging) (node len : ℕ) (l₀ l : List ℕ) (r : ℕ) : Type 0 where
+  pub holds : Holds l r (grown (wanted node (sources f node (entriesOf (f .nodes)))) (take len l₀))
+  pub most : r ≤ len + length (f .nodes)
 
 -- the place of each listed node, one more than it; 0 for all others
 pub record Seated (nodes slots : List ℕ) : Type 0 where

@@ -22,7 +22,11 @@ module _ {A : Type 0} (a e : ℕ) (l m : List A) (same : part a e l ≡ part a e
   pub at-inner : (k : ℕ) (d : A) → a ≤ k → k < e → getD l k d ≡ getD m k d
   at-inner k d low high =
       let q : a + (k - a) ≡ k = omega arith in
-      ap (λ (j : ℕ). getD l j d) (sym q) ∙ sym (part-at a e l (k - a) d (omega arith)) ∙ ap (λ (z : List A). getD z (k - a) d) same ∙ part-at a e m (k - a) d (omega arith) ∙ ap (λ (j : ℕ). getD m j d) q
+      ap (λ (j : ℕ). getD l j d) (sym q)
+      ∙ sym (part-at a e l (k - a) d (omega arith))
+      ∙ ap (λ (z : List A). getD z (k - a) d) same
+      ∙ part-at a e m (k - a) d (omega arith)
+      ∙ ap (λ (j : ℕ). getD m j d) q
 
   -- a stretch within it
   inner-is : (b f : ℕ) → a ≤ b → b ≤ f → f ≤ e → (z : List A) → take (f - b) (drop (b - a) (part a e z)) ≡ part b f z

@@ -2,3 +2,4 @@
 pub mod Inner
 pub mod Making
 pub mod Listing
+pub mod Pruning

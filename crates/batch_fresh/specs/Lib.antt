@@ -1,6 +1,4 @@
 -- The fresh rows of a batch: where they lie, what each holds, and that they are the definition's.
 pub mod Says
-pub mod Laws
 pub mod Made
 pub mod Once
-pub mod Ruled

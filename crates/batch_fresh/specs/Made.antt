@@ -1,73 +1,94 @@
--- What the fresh rows are made from, and what is known of them once they are made. They lie 64 words apart from 6n + 16,384 on.
+-- What the fresh rows are made from, and what is known of them once they are made. Where they lie is said in scratch.
 use mathlib.Core.Path.{_≡_}
-use mathlib.Core.Bool.{false}
 use mathlib.Core.List.{List, List·Memᴰ as Mem}
 use Prim.Native.Nat.{ℕ, _+_, _*_, _≤_, _<_}
-use lib.Ieee.{Float}
 use lib.ListN.{length, getD, take, drop}
-use Rattle.definition.specs.declared.Params.{Params}
-use Rattle.definition.specs.Floats.{four, above}
 use Rattle.definition.specs.Lists.{groups}
 use Rattle.definition.specs.Tables.{padded}
-use Rattle.definition.specs.Slack.{slack}
-use Rattle.definition.specs.Batch.{Setting, freshOf, freshRows}
-use Rattle.definition.specs.Outcome.{settingOf}
-use Rattle.laws.specs.Listed.{listedAt}
+use Rattle.definition.specs.Batch.{freshOf, freshRows}
+use Rattle.laws.specs.Listed.{freshWidth}
 use Rattle.laws.specs.Apart.{Apart}
-use Rattle.laws.specs.Parts.{part, Within}
-use Rattle.laws.specs.Words.{Searchable}
+use Rattle.laws.specs.Parts.{Within}
+use Rattle.laws.specs.Words.{Below}
+use Rattle.scratch.specs.Layout.{stampsAt, freshRowAt, factorsEnd}
+use Rattle.scratch.specs.Lent.{Lent}
+use Rattle.given.specs.Given.{Given, setting}
+use Rattle.given.specs.Listing.{Listing}
+use Rattle.given.specs.Held.{Roomy}
+use Rattle.given.specs.Fresh.{merging, freshRow, listedIn}
+use Rattle.greedy.specs.declared.Plan.{Plan}
 use Rattle.greedy.specs.Scratch.{Room}
+use Rattle.batch_pool.specs.declared.Collected.{Collected}
+use Rattle.batch_pool.specs.Regions.{stage, Grown, pooledIds}
+use Rattle.definition.specs.Metric.{vector, fromQuery}
 
--- the vectors, the parameters and the wide rows of a batch that is accepted; width is the slack
-pub record Given (n dim width : ℕ) (params : Params) (vectors wide : List ℕ) : Type 0 where
-  pub nodes : n ≤ 65536
-  pub vectors-are : length vectors ≡ n * dim
-  pub dim-le : dim ≤ 256
-  pub degree-le : params .degree ≤ 64
-  pub beam-le : params .beam ≤ 256
-  pub alpha-le : above (params .alpha) four ≡ false
-  pub width-is : width ≡ slack (params .degree)
-  pub size : length wide ≡ n * width
-  pub rows : Searchable n wide
+-- what the walks go by
+abbrev pub planOf : Given → Plan
+planOf g = record { n = g .n; dim = g .dim; width = g .width; beam = g .params .beam }
 
--- the scratch between two nodes, of which p are done: no pool mark is above p
-pub record Between (n beam epoch p : ℕ) (words : List ℕ) (floats : List Float) : Type 0 where
-  pub room : Room n epoch beam words floats
-  pub word-room : 6 * n + 32768 ≤ length words
-  pub float-room : 4 * n + 1024 ≤ length floats
-  pub marks : (i : ℕ) → i < n → getD words (4 * n + 256 + i) 0 ≤ p
+-- the scratch between two nodes, of which p are done: no stamp is above p
+pub record Between (g : Given) (epoch p : ℕ) (at : Lent) : Type 0 where
+  pub room : Room (planOf g) epoch at
+  pub roomy : Roomy (g .n) at
+  pub stamps : (i : ℕ) → i < g .n → getD (at .words) (stampsAt (g .n) + i) 0 ≤ p
+
+-- one listed node: its place among the listed, the start, and its group of seeds
+pub record Insertion : Type 0 where
+  pub place : ℕ
+  pub node : ℕ
+  pub start : ℕ
+  pub seeds : List ℕ
+
+abbrev pub insertion : ℕ → ℕ → ℕ → List ℕ → Insertion
+insertion place node start seeds = record { place = place; node = node; start = start; seeds = seeds }
+
+pub record Insertable (g : Given) (i : Insertion) : Type 0 where
+  pub place-in : i .place < 256
+  pub node-in : i .node < g .n
+  pub start-in : i .start < g .n
+  pub seeds-in : Below (g .n) (i .seeds)
+
+-- the listed node at place q, with its group
+abbrev pub inserted : Given → Listing → ℕ → Insertion
+inserted g l q = insertion q (getD (l .nodes) q 0) (l .start) (take (g .params .extra) (drop (q * g .params .extra) (l .seeds)))
+
+-- its fresh row, by the definition
+unfoldable pub freshFor : Given → List ℕ → Insertion → List ℕ
+freshFor g wide i = freshOf (setting g) wide (i .start) (i .node) (i .seeds) .fresh
+
+-- the distances from its own vector
+abbrev pub fromNode : Given → ℕ → ℕ → ℕ
+fromNode g node = fromQuery (g .dim) (g .vectors) (vector (g .dim) (g .vectors) node)
+
+-- its pool was collected, with its place's stamp
+pub record NodePool (g : Given) (wide : List ℕ) (i : Insertion) (before after : Lent) (c : Collected) : Type 0 where
+  pub grown : Grown (planOf g) (c .epoch) (stage (before .words) (before .floats) (i .place + 1) 0) (stage (after .words) (after .floats) (i .place + 1) (c .len))
+      (pooledIds (planOf g) (fromNode g (i .node)) wide (i .node) (i .start) (i .seeds)) (fromNode g (i .node))
 
 -- ids for the row of `own`
 pub record Fit (n own : ℕ) (row : List ℕ) : Type 0 where
   pub once : Apart row
   pub below : (x : ℕ) → Mem x row → x < n
   pub notOwn : ¬ Mem own row
-  pub most : length row ≤ 64
+  pub most : length row ≤ freshWidth
 
--- the words of fresh row p
-abbrev pub freshRow : ℕ → ℕ → List ℕ → List ℕ
-freshRow n p words = part (6 * n + 16384 + 64 * p) (6 * n + 16384 + 64 * p + 64) words
-
--- fresh row p was written: the ids xs, for `own`. The rows before it are as they were
-pub record RowMade (n own p : ℕ) (xs : List ℕ) (words₀ : List ℕ) (floats₀ : List Float) (words : List ℕ) (floats : List Float) : Type 0 where
-  pub row : freshRow n p words ≡ padded 64 xs
-  pub fit : Fit n own xs
-  pub before : (q : ℕ) → q < p → freshRow n q words ≡ freshRow n q words₀
-  pub words-kept : Within 0 (6 * n + 16384 + 64 * p + 64) words₀ words
-  pub floats-kept : Within 0 (3 * n + 1006) floats₀ floats
-
--- the fresh row of the node at place q of the listed, by the definition
-unfoldable pub freshAt : Setting → List ℕ → ℕ → List ℕ → ℕ → List ℕ → ℕ → List ℕ
-freshAt g wide start nodes extra seeds q = freshOf g wide start (getD nodes q 0) (take extra (drop (q * extra) seeds)) .fresh
+-- its fresh row was written; the rows before it are as they were
+pub record RowMade (g : Given) (wide : List ℕ) (i : Insertion) (before after : Lent) : Type 0 where
+  pub row : freshRow (g .n) (i .place) (after .words) ≡ padded freshWidth (freshFor g wide i)
+  pub fit : Fit (g .n) (i .node) (freshFor g wide i)
+  pub earlier : (q : ℕ) → q < i .place → freshRow (g .n) q (after .words) ≡ freshRow (g .n) q (before .words)
+  pub words-kept : Within 0 (freshRowAt (g .n) (i .place) + freshWidth) (before .words) (after .words)
+  pub floats-kept : Within 0 (factorsEnd (g .n)) (before .floats) (after .floats)
 
 -- the first k fresh rows
-pub record RowsMade (g : Setting) (n : ℕ) (wide : List ℕ) (start : ℕ) (nodes : List ℕ) (extra : ℕ) (seeds words₀ : List ℕ) (floats₀ : List Float) (words : List ℕ) (floats : List Float) (k : ℕ) : Type 0 where
-  pub rows : (q : ℕ) → q < k → freshRow n q words ≡ padded 64 (freshAt g wide start nodes extra seeds q)
-  pub fits : (q : ℕ) → q < k → Fit n (getD nodes q 0) (freshAt g wide start nodes extra seeds q)
-  pub words-kept : Within 0 (6 * n + 16384 + 64 * k) words₀ words
-  pub floats-kept : Within 0 (3 * n + 1006) floats₀ floats
+pub record RowsMade (g : Given) (wide : List ℕ) (l : Listing) (before after : Lent) (k : ℕ) : Type 0 where
+  pub rows : (q : ℕ) → q < k → freshRow (g .n) q (after .words) ≡ padded freshWidth (freshFor g wide (inserted g l q))
+  pub fits : (q : ℕ) → q < k → Fit (g .n) (getD (l .nodes) q 0) (freshFor g wide (inserted g l q))
+  pub words-kept : Within 0 (freshRowAt (g .n) k) (before .words) (after .words)
+  pub floats-kept : Within 0 (factorsEnd (g .n)) (before .floats) (after .floats)
 
 -- all fresh rows: they are the definition's, each once each, of ids below n, without its own
-pub record FreshRows (n dim : ℕ) (params : Params) (vectors wide : List ℕ) (start : ℕ) (nodes seeds words₀ : List ℕ) (floats₀ : List Float) (words : List ℕ) (floats : List Float) : Type 0 where
-  pub are : listedAt nodes (drop (6 * n + 16384) words) ≡ freshRows (settingOf n dim vectors params) wide start nodes (groups (length nodes) (params .extra) seeds)
-  pub made : RowsMade (settingOf n dim vectors params) n wide start nodes (params .extra) seeds words₀ floats₀ words floats (length nodes)
+pub record FreshRows (g : Given) (wide : List ℕ) (l : Listing) (before after : Lent) : Type 0 where
+  pub are : listedIn (merging (g .n) (l .nodes) (after .words))
+      ≡ freshRows (setting g) wide (l .start) (l .nodes) (groups (length (l .nodes)) (g .params .extra) (l .seeds))
+  pub made : RowsMade g wide l before after (length (l .nodes))

@@ -1,4 +1,4 @@
--- Entry by entry: no id stands twice in a fresh row. And the scratch as a batch begins with it.
+-- Entry by entry: no id stands twice in a fresh row, and each is an id below n or padding. And the scratch as a batch begins with it.
 use mathlib.Core.Path.{_≡_, refl, sym, ap, _∙_, subst}
 use mathlib.Core.Bool.{Bool, true, false}
 use mathlib.Core.List.{List, _++_, List·Memᴰ as Mem}
@@ -6,60 +6,104 @@ use Prim.Native.Nat.{ℕ, zero, suc, _+_, _*_, _-_, _/_, _≤_, _<_}
 use native.Mathlib.Omega.{arith}
 use borrow.Author.Tests.{ltb-true, ltb-false}
 use lib.Dec.{ltb}
-use lib.Ieee.{Float}
 use lib.ListN.{length, getD, replicate, List·getD-append, getD-replicate}
 use lib.Seq.{getD-append-add}
 use Rattle.definition.specs.Tables.{pad, padded}
-use Rattle.definition.specs.Batch.{Setting}
+use Rattle.laws.specs.Listed.{freshWidth}
 use Rattle.laws.specs.Members.{mem-at}
 use Rattle.laws.specs.Apart.{Apart, nobody, another}
 use Rattle.laws.specs.Parts.{part-at}
-use Rattle.batch_fresh.specs.Made.{Between, Fit, RowsMade, freshAt}
+use Rattle.laws.specs.Words.{padding}
+use Rattle.scratch.specs.Layout.{stampsAt, freshAt, freshRowAt}
+use Rattle.scratch.specs.Lent.{Lent}
+use Rattle.given.specs.Given.{Given, WalkLimits}
+use Rattle.given.specs.Listing.{Listing}
+use Rattle.given.specs.Held.{Roomy}
+use Rattle.given.specs.Fresh.{entry}
+use Rattle.batch_fresh.specs.Made.{Between, Fit, RowsMade, freshFor, inserted}
 
 apart-at : {xs : List ℕ} → Apart xs → (i j : ℕ) → i < j → j < length xs → getD xs i 0 ≡ getD xs j 0 → ⊥
 apart-at nobody i j h l e = absurd (omega arith)
 apart-at (another n a) i zero h l e = absurd (omega arith)
-apart-at (another {x = x} {xs = xs} n a) zero (suc j) h l e = n (subst (λ (z : ℕ). Mem z xs) (sym e) (mem-at xs j (omega arith)))
+apart-at (another {x = x} {xs = xs} n a) zero (suc j) h l e = n (subst (λ (z : ℕ). Mem z xs) (sym e) (mem-at 0 xs j (omega arith)))
 apart-at (another n a) (suc i) (suc j) h l e = apart-at a i j (omega arith) (omega arith) e
 
-module _ (n own : ℕ) (small : n ≤ 65536) (xs : List ℕ) (fit : Fit n own xs) (i j : ℕ) (h : i < j) (l : j < 64) (e : getD (padded 64 xs) i 0 ≡ getD (padded 64 xs) j 0) where
-  -- both are ids, or the later one is padding
-  once-padded : (t : Bool) → ltb j (length xs) ≡ t → n ≤ getD (padded 64 xs) j 0
-  unfolding padded pad
-  once-padded true t =
-      let k : j < length xs = ltb-true j (length xs) t in
-      absurd (apart-at (fit .once) i j h k (sym (List·getD-append xs (replicate (64 - length xs) pad) 0 i (omega arith)) ∙ e ∙ List·getD-append xs (replicate (64 - length xs) pad) 0 j k))
-  once-padded false t =
-      let k : length xs ≤ j = ltb-false j (length xs) t in
+module _ {n own : ℕ} {xs : List ℕ} (fit : Fit n own xs) where
+  abbrev tail : List ℕ
+  tail = replicate (freshWidth - length xs) pad
+
+  -- in front the row has its ids, behind them padding
+  id-at : (i : ℕ) → i < length xs → getD (padded freshWidth xs) i 0 ≡ getD xs i 0
+  unfolding padded
+  id-at i h = List·getD-append xs tail 0 i h
+
+  pad-at : (j : ℕ) → length xs ≤ j → j < freshWidth → getD (padded freshWidth xs) j 0 ≡ pad
+  unfolding padded
+  pad-at j h l =
       let q : length xs + (j - length xs) ≡ j = omega arith in
-      let p : getD (xs ++ replicate (64 - length xs) pad) j 0 ≡ pad =
-      ap (λ (z : ℕ). getD (xs ++ replicate (64 - length xs) pad) z 0) (sym q)
-      ∙ getD-append-add xs (replicate (64 - length xs) pad) (j - length xs) 0 ∙ getD-replicate (64 - length xs) (j - length xs) pad 0 (omega arith) in
-      omega arith
+      ap (λ (z : ℕ). getD (xs ++ tail) z 0) (sym q)
+      ∙ getD-append-add xs tail (j - length xs) 0
+      ∙ getD-replicate (freshWidth - length xs) (j - length xs) pad 0 (omega arith)
 
--- the entries a and b of one fresh row, counted from the first word of the first row
-pub fresh-once : (g : Setting) (n : ℕ) (wide : List ℕ) (start : ℕ) (nodes : List ℕ) (extra : ℕ) (seeds words₀ : List ℕ) (floats₀ : List Float) (words : List ℕ) (floats : List Float) (k : ℕ)
-    → RowsMade g n wide start nodes extra seeds words₀ floats₀ words floats k → n ≤ 65536
-    → (a b : ℕ) → a < b → b < k * 64 → a / 64 ≡ b / 64 → getD words (6 * n + 16384 + a) 0 ≡ getD words (6 * n + 16384 + b) 0 → n ≤ getD words (6 * n + 16384 + b) 0
-fresh-once g n wide start nodes extra seeds words₀ floats₀ words floats k m small a b h l d e =
-    let q : b / 64 < k = omega arith in
-    let p : b - 64 * (b / 64) < 64 = omega arith in
-    let at : (c : ℕ) → c / 64 ≡ b / 64 → getD (padded 64 (freshAt g wide start nodes extra seeds (b / 64))) (c - 64 * (b / 64)) 0 ≡ getD words (6 * n + 16384 + c) 0 =
-    λ c f.
-    let r : 6 * n + 16384 + 64 * (b / 64) + (c - 64 * (b / 64)) ≡ 6 * n + 16384 + c = omega arith in
-    ap (λ (z : List ℕ). getD z (c - 64 * (b / 64)) 0) (sym (m .rows (b / 64) q))
-    ∙ part-at (6 * n + 16384 + 64 * (b / 64)) (6 * n + 16384 + 64 * (b / 64) + 64) words (c - 64 * (b / 64)) 0 (omega arith)
-    ∙ ap (λ (z : ℕ). getD words z 0) r in
-    subst (λ (z : ℕ). n ≤ z) (at b refl)
-    (once-padded n (getD nodes (b / 64) 0) small (freshAt g wide start nodes extra seeds (b / 64)) (m .fits (b / 64) q) (a - 64 * (b / 64)) (b - 64 * (b / 64)) (omega arith) p (at a d ∙ e ∙ sym (at b refl)) (ltb (b - 64 * (b / 64)) (length (freshAt g wide start nodes extra seeds (b / 64)))) refl)
+  -- of two equal words the later one is padding
+  padded-once : n ≤ 65536 → (i j : ℕ) → i < j → j < freshWidth → getD (padded freshWidth xs) i 0 ≡ getD (padded freshWidth xs) j 0
+      → (t : Bool) → ltb j (length xs) ≡ t → n ≤ getD (padded freshWidth xs) j 0
+  unfolding pad
+  padded-once small i j h l e true t =
+      let k : j < length xs = ltb-true j (length xs) t in
+      absurd (apart-at (fit .once) i j h k (sym (id-at i (omega arith)) ∙ e ∙ id-at j k))
+  padded-once small i j h l e false t = let p = pad-at j (ltb-false j (length xs) t) l in omega arith
 
--- ---- marks and pool marks are 0
-pub between-start : (n beam : ℕ) (words : List ℕ) (floats : List Float) → n ≤ 65536 → beam ≤ 256 → 6 * n + 32768 ≤ length words → 4 * n + 1024 ≤ length floats
-    → ((i : ℕ) → i < n → getD words i 0 ≡ 0) → ((i : ℕ) → i < n → getD words (4 * n + 256 + i) 0 ≡ 0) → Between n beam 1 0 words floats
-between-start n beam words floats small few wr fr marks pool =
+  -- a word that is no padding is one of the ids
+  padded-below : (j : ℕ) → j < freshWidth → (getD (padded freshWidth xs) j 0 ≡ padding → ⊥) → (t : Bool) → ltb j (length xs) ≡ t
+      → getD (padded freshWidth xs) j 0 < n
+  unfolding pad
+  padded-below j h p true t =
+      let k = ltb-true j (length xs) t in
+      subst (λ (z : ℕ). z < n) (sym (id-at j k)) (fit .below (getD xs j 0) (mem-at 0 xs j k))
+  padded-below j h p false t = absurd (p (pad-at j (ltb-false j (length xs) t) h))
+
+-- ---- the entries of the fresh rows, counted from the first word of the first row
+module _ {g : Given} {wide : List ℕ} {l : Listing} {before after : Lent} {k : ℕ} (m : RowsMade g wide l before after k) where
+  -- the row at place q
+  abbrev rowOf : ℕ → List ℕ
+  rowOf q = freshFor g wide (inserted g l q)
+
+  entry-in : (q c : ℕ) → q < k → c / freshWidth ≡ q → getD (padded freshWidth (rowOf q)) (c - freshWidth * q) 0 ≡ entry (g .n) (after .words) c
+  entry-in q c h f =
+      let r : freshRowAt (g .n) q + (c - freshWidth * q) ≡ freshAt (g .n) + c = omega arith in
+      ap (λ (z : List ℕ). getD z (c - freshWidth * q) 0) (sym (m .rows q h))
+      ∙ part-at (freshRowAt (g .n) q) (freshRowAt (g .n) q + freshWidth) (after .words) (c - freshWidth * q) 0 (omega arith)
+      ∙ ap (λ (z : ℕ). getD (after .words) z 0) r
+
+  pub fresh-once : g .n ≤ 65536 → (a b : ℕ) → a < b → b < k * freshWidth → a / freshWidth ≡ b / freshWidth
+      → entry (g .n) (after .words) a ≡ entry (g .n) (after .words) b → g .n ≤ entry (g .n) (after .words) b
+  fresh-once small a b h c d e =
+      let p = b / freshWidth in
+      let q : b / freshWidth < k = omega arith in
+      subst (λ (z : ℕ). g .n ≤ z) (entry-in p b q refl)
+      (padded-once (m .fits p q) small (a - freshWidth * p) (b - freshWidth * p) (omega arith) (omega arith)
+      (entry-in p a q d ∙ e ∙ sym (entry-in p b q refl)) (ltb (b - freshWidth * p) (length (rowOf p))) refl)
+
+  pub fresh-below : (a : ℕ) → a < k * freshWidth → (entry (g .n) (after .words) a ≡ padding → ⊥) → entry (g .n) (after .words) a < g .n
+  fresh-below a h p =
+      let s = a / freshWidth in
+      let q : a / freshWidth < k = omega arith in
+      let e = entry-in s a q refl in
+      subst (λ (z : ℕ). z < g .n) e
+      (padded-below (m .fits s q) (a - freshWidth * s) (omega arith) (λ z. p (sym e ∙ z)) (ltb (a - freshWidth * s) (length (rowOf s))) refl)
+
+-- ---- marks and stamps are 0
+pub between-start : (g : Given) (at : Lent) → WalkLimits g → Roomy (g .n) at → ((i : ℕ) → i < g .n → getD (at .words) i 0 ≡ 0)
+    → ((i : ℕ) → i < g .n → getD (at .words) (stampsAt (g .n) + i) 0 ≡ 0) → Between g 1 0 at
+between-start g at limits roomy marks stamps =
+    let w = roomy .words in
+    let f = roomy .floats in
     record {
-      room = record { nodes = small; word-room = omega arith; float-room = omega arith; marks = λ i h. let k = marks i h in omega arith; beam-le = few };
-      word-room = wr;
-      float-room = fr;
-      marks = λ i h. let k = pool i h in omega arith;
+      room = record {
+        space = record { nodes = limits .limits .nodes; word-room = omega arith; float-room = omega arith; beam-le = limits .beam-few };
+        marks = λ i h. let k = marks i h in omega arith;
+      };
+      roomy = roomy;
+      stamps = λ i h. let k = stamps i h in omega arith;
     }

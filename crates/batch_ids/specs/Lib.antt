@@ -1,4 +1,3 @@
--- Ids put into a rising list, each once; rows of ids and padding.
+-- Ids put into a rising list, each once.
 pub mod Grown
 pub mod Says
-pub mod Entries

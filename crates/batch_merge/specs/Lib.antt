@@ -1,4 +1,2 @@
 -- The merge of a batch.
-pub mod Layout
 pub mod Says
-pub mod Zeroed

@@ -1,61 +1,64 @@
--- What the functions of the merge ask and leave.
+-- What the functions of the merge ask and leave. Where everything lies in the lent slices is said in scratch.
 use Prim.Native.Nat.{ℕ, _+_, _*_, _≤_, _<_}
 use mathlib.Core.Path.{_≡_}
 use mathlib.Core.List.{List}
-use lib.ListN.{length, getD, drop}
-use lib.Ieee.{Float}
-use Rattle.definition.specs.declared.Params.{Params}
+use lib.ListN.{length}
+use Rattle.definition.specs.Tables.{row}
 use Rattle.definition.specs.Batch.{mergedIds, fitted, merged}
-use Rattle.definition.specs.Outcome.{settingOf}
-use Rattle.laws.specs.Listed.{listedAt}
 use Rattle.laws.specs.Parts.{Within}
-use Rattle.laws.specs.Words.{padding, Searchable}
-use Rattle.prune.specs.Says.{Stretched}
-use Rattle.batch_chains.specs.Says.{entry, Once}
+use Rattle.laws.specs.Words.{Below, Searchable}
+use Rattle.scratch.specs.Layout.{linksEnd, freshEnd, factorsAt, factorsEnd}
+use Rattle.given.specs.Given.{Given, setting, Limits, Wide}
+use Rattle.given.specs.Held.{Held}
+use Rattle.given.specs.Fresh.{Merging, merging, entriesOf, listedIn}
+use Rattle.batch_chains.specs.Says.{Once}
+use Rattle.batch_affected.specs.Below.{NamesBelow}
+use Rattle.table.specs.Rows.{Stretched}
 use Rattle.batch_affected.specs.Says.{Ready}
-use Rattle.prune_fit.specs.Given.{Given}
-use Rattle.batch_merge.specs.Layout.{linksAt, linksEnd, freshAt, factorsAt, factorsEnd}
 
--- the fresh rows, as pruning left them: no id twice in a row, each id below n
-pub record FreshRows (words nodes : List ℕ) (n : ℕ) : Type 0 where
-  pub once : Once words n (freshAt n) (length nodes * 64)
-  pub below : (e : ℕ) → e < length nodes * 64 → (entry words (freshAt n) e ≡ padding → ⊥) → entry words (freshAt n) e < n
+-- the listed nodes, room for their chains, and the fresh rows as pruning left them: no id twice in a row, each id below n
+pub record Unlinked (f : Merging) : Type 0 where
+  pub nodes : f .n ≤ 65536
+  pub few : length (f .nodes) ≤ 256
+  pub real : Below (f .n) (f .nodes)
+  pub room : freshEnd (f .n) ≤ length (f .words)
+  pub once : Once (f .n) (entriesOf (f .nodes)) (f .words)
+  pub below : NamesBelow f
 
--- the listed nodes, and room for their chains
-pub record Unlinked (words nodes : List ℕ) (n : ℕ) : Type 0 where
-  pub few : n ≤ 65536
-  pub listed : length nodes ≤ 256
-  pub real : (p : ℕ) → p < length nodes → getD nodes p 0 < n
-  pub room : 6 * n + 32768 ≤ length words
-  pub fresh : FreshRows words nodes n
+-- the words from which rows are gathered: chains, seats, and the fresh rows' ids
+pub record Gatherable (f : Merging) : Type 0 where
+  pub ready : Ready f
+  pub below : NamesBelow f
 
--- the scratch from which rows are gathered: chains, seats, and the fresh rows' ids
-pub record Gatherable (words nodes : List ℕ) (n : ℕ) : Type 0 where
-  pub ready : Ready words nodes n (linksAt n) (freshAt n)
-  pub fresh : FreshRows words nodes n
-
-pub record AllLinked (w₀ w nodes : List ℕ) (n : ℕ) : Type 0 where
-  pub gatherable : Gatherable w nodes n
+pub record AllLinked (n : ℕ) (nodes w₀ w : List ℕ) : Type 0 where
+  pub gatherable : Gatherable (merging n nodes w)
   pub within : Within 0 (linksEnd n) w₀ w
 
 -- the ids of row i after the merge
-unfoldable pub mergedTo : ℕ → ℕ → List ℕ → Params → List ℕ → List ℕ → ℕ → List ℕ → List ℕ
-mergedTo n dim vectors p words nodes i wide = fitted (settingOf n dim vectors p) i (mergedIds (settingOf n dim vectors p) wide (listedAt nodes (drop (freshAt n) words)) i)
+unfoldable pub mergedTo : Given → Merging → List ℕ → ℕ → List ℕ
+mergedTo g f wide i = fitted (setting g) i (mergedIds (setting g) wide (listedIn f) i)
+
+-- a node whose row may be merged
+pub record RowReady (g : Given) (f : Merging) (i : ℕ) (wide : List ℕ) : Type 0 where
+  pub limits : Limits g
+  pub gatherable : Gatherable f
+  pub within : i < g .n
+  pub has : i * g .width + g .width ≤ length wide
+  pub words : Searchable (g .n) (row (g .width) wide i)
 
 -- only row i differs
-pub record RowMerged (n dim : ℕ) (vectors : List ℕ) (p : Params) (width : ℕ) (words nodes : List ℕ) (i : ℕ) (wide₀ wide : List ℕ) : Type 0 where
-  pub row : Stretched wide₀ wide i width (length (mergedTo n dim vectors p words nodes i wide₀)) (mergedTo n dim vectors p words nodes i wide₀)
+pub record RowMerged (g : Given) (f : Merging) (i : ℕ) (wide₀ wide : List ℕ) : Type 0 where
+  pub row : Stretched wide₀ wide i (g .width) (length (mergedTo g f wide₀ i)) (mergedTo g f wide₀ i)
 
 -- all that a merge asks
-pub record MergeReady (n dim : ℕ) (vectors : List ℕ) (p : Params) (width : ℕ) (nodes wide words : List ℕ) (floats : List Float) : Type 0 where
-  pub given : Given n dim vectors p width
-  pub unlinked : Unlinked words nodes n
-  pub table : length wide ≡ n * width
-  pub ids : Searchable n wide
-  pub room : factorsEnd n ≤ length floats
+pub record MergeReady (g : Given) (nodes : List ℕ) (h : Held) : Type 0 where
+  pub limits : Limits g
+  pub unlinked : Unlinked (merging (g .n) nodes (h .lent .words))
+  pub table : Wide g (h .wide)
+  pub room : factorsEnd (g .n) ≤ length (h .lent .floats)
 
 -- the wide table is the definition's; fresh rows and all else outside the merge's own room stay
-pub record Merged (n dim : ℕ) (vectors : List ℕ) (p : Params) (nodes wide₀ words₀ : List ℕ) (floats₀ : List Float) (wide words : List ℕ) (floats : List Float) : Type 0 where
-  pub wide-is : wide ≡ merged (settingOf n dim vectors p) wide₀ (listedAt nodes (drop (freshAt n) words₀))
-  pub words-within : Within 0 (linksEnd n) words₀ words
-  pub floats-within : Within (factorsAt n) (factorsEnd n) floats₀ floats
+pub record Merged (g : Given) (nodes : List ℕ) (before after : Held) : Type 0 where
+  pub wide-is : after .wide ≡ merged (setting g) (before .wide) (listedIn (merging (g .n) nodes (before .lent .words)))
+  pub words-within : Within 0 (linksEnd (g .n)) (before .lent .words) (after .lent .words)
+  pub floats-within : Within (factorsAt (g .n)) (factorsEnd (g .n)) (before .lent .floats) (after .lent .floats)

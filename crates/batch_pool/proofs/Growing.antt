@@ -1,93 +1,126 @@
--- The pool grows: by a row, by a walk, by one walk after another.
+-- The pool grows: by a row, by a walk, by one walk after another. A walk leaves the pool alone, and what it visited, with its distances, goes into it.
 use mathlib.Core.Path.{_≡_, refl, sym, ap, _∙_, subst}
 use mathlib.Core.List.{List, [], _∷_, _++_, map, append-nil, append-assoc}
 use Prim.Native.Nat.{ℕ, _+_, _*_, _-_, _≤_, _<_}
 use native.Mathlib.Numerals.{add-one}
-use native.Mathlib.Nat.{add-sub-cancel-left}
 use native.Mathlib.Omega.{arith}
 use lib.Ieee.{Float}
-use lib.ListN.{length, getD, take, drop, length-take, length-drop}
+use lib.ListN.{length, getD, take}
 use lib.Seq.{take-suc, take-all}
-use borrow.Rule.Slice.PartMut.{putMid}
 use Rattle.definition.specs.Lists.{joined}
-use Rattle.definition.specs.Greedy.{greedy}
-use Rattle.definition.specs.Tables.{row, ids}
-use Rattle.laws.specs.Parts.{part, part-at, within-above, within-wider, within-trans, within-none}
-use Rattle.laws.specs.Words.{padding, Searchable}
-use Rattle.greedy.specs.Scratch.{Walks}
-use Rattle.batch_pool.specs.Pooled.{Added}
-use Rattle.batch_pool.specs.Regions.{poolOf, distsOf, seenOf, Seen, Filled, Holding, Grown, visits, pooledIds}
+use Rattle.definition.specs.Tables.{ids}
+use Rattle.laws.specs.Parts.{part, within-above, within-wider, within-trans, within-none}
+use Rattle.laws.specs.Tables.{part-row}
+use Rattle.laws.specs.Words.{Searchable}
+use Rattle.scratch.specs.Lent.{Lent}
+use Rattle.scratch.specs.Layout.{workEnd, workDistsEnd, poolAt, stampsEnd, poolDistsAt, factorsAt}
+use Rattle.marks.specs.Marked.{visitedOf}
+use Rattle.greedy.specs.declared.Plan.{Plan}
+use Rattle.greedy.specs.declared.Walked.{Walked}
+use Rattle.greedy.specs.Scratch.{walkOf, Walks}
+use Rattle.batch_pool.specs.Pooled.{poolAs, Pooled, Added}
+use Rattle.batch_pool.specs.Regions.{Stage, poolWordsOf, poolDistsOf, poolOf, Seen, Filled, Holding, Grown, visits, pooledIds}
 use Rattle.batch_pool.proofs.Adding.{added-none, added-then}
-use Rattle.batch_pool.proofs.Lending.{words-lent, floats-lent, added-lent, room-kept}
+use Rattle.batch_pool.proofs.Lending.{returned, words-lent, floats-lent, added-lent, room-kept}
 use Rattle.batch_pool.proofs.Visits.{seen-known, seen-visits}
 
 -- ---- a walk, and what it visited
-module _ (n width beam : ℕ) (table : List ℕ) (d : ℕ → ℕ) (start : ℕ) (low : start < n) (rule : Searchable n table) (epoch : ℕ) (words₀ words : List ℕ) (floats₀ floats : List Float) (e v w : ℕ)
-    (k : Walks n epoch beam words₀ floats₀ words floats e v w (greedy d (row width table) n beam start)) where
-  -- the walk leaves the pool alone
-  pub pool-kept : poolOf n words ≡ poolOf n words₀
-  pool-kept = within-above 0 (2 * n + 256) words₀ words (k .words-kept) (3 * n + 256) (5 * n + 256) (omega arith)
+module _ (p : Plan) (table : List ℕ) (d : ℕ → ℕ) (start : ℕ) (low : start < p .n) (rule : Searchable (p .n) table) (epoch : ℕ) (s₀ : Stage)
+    (h : Holding p epoch s₀) (after : Lent) (r : Walked) (k : Walks p epoch (s₀ .lent) after r (walkOf p d table start)) where
+  abbrev n : ℕ
+  n = p .n
 
-  pub dists-kept : distsOf n floats ≡ distsOf n floats₀
-  dists-kept = within-above 0 (n + 256) floats₀ floats (k .floats-kept) (2 * n + 256) (3 * n + 256) (omega arith)
+  -- the same pool, in the scratch as the walk left it
+  abbrev s₁ : Stage
+  s₁ = record { lent = after; stamp = s₀ .stamp; len = s₀ .len }
 
-  pub grown-walk : (stamp len : ℕ) → 5 * n + 256 ≤ length words₀ → 3 * n + 256 ≤ length floats₀ → (words′ : List ℕ) (floats′ : List Float) (r : ℕ) → Filled n stamp words floats len words′ floats′ r v
-      → Grown n beam stamp words₀ floats₀ len words′ floats′ e r (visits d width table n beam start) d
-  grown-walk stamp len wr fr words′ floats′ r g =
+  words-same : poolWordsOf n (after .words) ≡ poolWordsOf n (s₀ .lent .words)
+  words-same = within-above 0 (workEnd n) (s₀ .lent .words) (after .words) (k .words-kept) (poolAt n) (stampsEnd n) (omega arith)
+
+  dists-same : poolDistsOf n (after .floats) ≡ poolDistsOf n (s₀ .lent .floats)
+  dists-same = within-above 0 (workDistsEnd n) (s₀ .lent .floats) (after .floats) (k .floats-kept) (poolDistsAt n) (factorsAt n) (omega arith)
+
+  pub walked-pool : Pooled n (poolOf n s₁)
+  walked-pool = rw (words-same, dists-same) (h .pooled)
+
+  pub walked-words : stampsEnd n ≤ length (after .words)
+  walked-words = omega (arith, k .words-kept .size, h .word-room)
+
+  pub walked-floats : factorsAt n ≤ length (after .floats)
+  walked-floats = omega (arith, k .floats-kept .size, h .float-room)
+
+  pub grown-walk : (s : Stage) → Filled n s₁ s (r .visited) → Grown p (r .epoch) s₀ s (visits p d table start) d
+  grown-walk s g =
       record {
         holding =
             record {
-              room = room-kept n e beam (5 * n + 256) (3 * n + 256) words words′ floats floats′ (k .room) (g .words-kept) (g .floats-kept);
-              word-room = omega (arith, g .words-kept .size, k .words-kept .size);
-              float-room = omega (arith, g .floats-kept .size, k .floats-kept .size);
+              room = room-kept p (r .epoch) (stampsEnd n) (factorsAt n) after (s .lent) (k .room) (g .words-kept) (g .floats-kept);
+              word-room = omega (arith, g .words-kept .size, walked-words);
+              float-room = omega (arith, g .floats-kept .size, walked-floats);
               pooled = g .added .pooled;
             };
-        added =
-            let a : Added n stamp (poolOf n words) (distsOf n floats) len (poolOf n words′) (distsOf n floats′) r (take v (seenOf n words)) (λ f. f ≡ d) =
-            record {
-              pooled = g .added .pooled;
-              same = g .added .same;
-              measured = λ f q m. g .added .measured f (subst (Seen n words floats v) (sym q) (seen-known n width beam table d start low rule epoch words₀ words floats₀ floats e v w k)) m;
-            } in
-            rw (sym pool-kept, sym dists-kept, sym (seen-visits n width beam table d start low rule epoch words₀ words floats₀ floats e v w k)) a;
+        added = rw (sym words-same, sym dists-same, sym (seen-visits p table d start low rule epoch (s₀ .lent) after r k)) own;
         words-kept =
-            within-trans 0 (5 * n + 256) words₀ words words′ (within-wider 0 (2 * n + 256) words₀ words (k .words-kept) 0 (5 * n + 256) (omega arith) (omega arith))
-            (within-wider (3 * n + 256) (5 * n + 256) words words′ (g .words-kept) 0 (5 * n + 256) (omega arith) (omega arith));
+            within-trans 0 (stampsEnd n) (s₀ .lent .words) (after .words) (s .lent .words)
+            (within-wider 0 (workEnd n) (s₀ .lent .words) (after .words) (k .words-kept) 0 (stampsEnd n) (omega arith) (omega arith))
+            (within-wider (poolAt n) (stampsEnd n) (after .words) (s .lent .words) (g .words-kept) 0 (stampsEnd n) (omega arith) (omega arith));
         floats-kept =
-            within-trans 0 (3 * n + 256) floats₀ floats floats′ (within-wider 0 (n + 256) floats₀ floats (k .floats-kept) 0 (3 * n + 256) (omega arith) (omega arith))
-            (within-wider (2 * n + 256) (3 * n + 256) floats floats′ (g .floats-kept) 0 (3 * n + 256) (omega arith) (omega arith));
+            within-trans 0 (factorsAt n) (s₀ .lent .floats) (after .floats) (s .lent .floats)
+            (within-wider 0 (workDistsEnd n) (s₀ .lent .floats) (after .floats) (k .floats-kept) 0 (factorsAt n) (omega arith) (omega arith))
+            (within-wider (poolDistsAt n) (factorsAt n) (after .floats) (s .lent .floats) (g .floats-kept) 0 (factorsAt n) (omega arith) (omega arith));
       }
+    where
+      known : Seen n after (r .visited) d
+      known = seen-known p table d start low rule epoch (s₀ .lent) after r k
+
+      own : Added n (poolOf n s₁) (poolOf n s) (take (r .visited) (visitedOf n (after .words))) (λ f. f ≡ d)
+      own =
+          record {
+            pooled = g .added .pooled;
+            same = g .added .same;
+            measured = λ f q m. g .added .measured f (subst (Seen n after (r .visited)) (sym q) known) m;
+          }
 
 -- ---- none, and one after another
-module _ (n beam stamp : ℕ) (d : ℕ → ℕ) where
-  pub grown-none : (words : List ℕ) (floats : List Float) (len e : ℕ) → Holding n e beam stamp len words floats → Grown n beam stamp words floats len words floats e len [] d
-  grown-none words floats len e h =
-      record { holding = h; added = added-none (distsOf n floats) (λ f. f ≡ d) (h .pooled); words-kept = within-none 0 (5 * n + 256) words; floats-kept = within-none 0 (3 * n + 256) floats }
+module _ (p : Plan) (d : ℕ → ℕ) where
+  pub grown-none : (epoch : ℕ) (s : Stage) → Holding p epoch s → Grown p epoch s s [] d
+  grown-none epoch s h =
+      record {
+        holding = h;
+        added = added-none (λ f. f ≡ d) (h .pooled);
+        words-kept = within-none 0 (stampsEnd (p .n)) (s .lent .words);
+        floats-kept = within-none 0 (factorsAt (p .n)) (s .lent .floats);
+      }
 
-  pub grown-then : (words₀ words₁ words₂ : List ℕ) (floats₀ floats₁ floats₂ : List Float) (len₀ len₁ len₂ e₁ e₂ : ℕ) (xs ys : List ℕ)
-      → Grown n beam stamp words₀ floats₀ len₀ words₁ floats₁ e₁ len₁ xs d → Grown n beam stamp words₁ floats₁ len₁ words₂ floats₂ e₂ len₂ ys d
-      → Grown n beam stamp words₀ floats₀ len₀ words₂ floats₂ e₂ len₂ (xs ++ ys) d
-  grown-then words₀ words₁ words₂ floats₀ floats₁ floats₂ len₀ len₁ len₂ e₁ e₂ xs ys g h =
+  pub grown-then : (e₁ e₂ : ℕ) (s₀ s₁ s₂ : Stage) (xs ys : List ℕ) → Grown p e₁ s₀ s₁ xs d → Grown p e₂ s₁ s₂ ys d → Grown p e₂ s₀ s₂ (xs ++ ys) d
+  grown-then e₁ e₂ s₀ s₁ s₂ xs ys g h =
       record {
         holding = h .holding;
         added = added-then (λ f. f ≡ d) (g .added) (h .added) (λ f q. q) (λ f q. q);
-        words-kept = within-trans 0 (5 * n + 256) words₀ words₁ words₂ (g .words-kept) (h .words-kept);
-        floats-kept = within-trans 0 (3 * n + 256) floats₀ floats₁ floats₂ (g .floats-kept) (h .floats-kept);
+        words-kept = within-trans 0 (stampsEnd (p .n)) (s₀ .lent .words) (s₁ .lent .words) (s₂ .lent .words) (g .words-kept) (h .words-kept);
+        floats-kept = within-trans 0 (factorsAt (p .n)) (s₀ .lent .floats) (s₁ .lent .floats) (s₂ .lent .floats) (g .floats-kept) (h .floats-kept);
       }
 
-  -- the row was added to the two stretches, lent as parts
-  pub grown-row : (words : List ℕ) (floats : List Float) (e : ℕ) (h : Holding n e beam stamp 0 words floats) (pool : List ℕ) (dists : List Float)
-      (np : length pool ≡ length (poolOf n words)) (nd : length dists ≡ length (distsOf n floats)) (r : ℕ) (xs : List ℕ) → Added n stamp (poolOf n words) (distsOf n floats) 0 pool dists r xs (λ f. f ≡ d)
-      → Grown n beam stamp words floats 0 (putMid (3 * n + 256) ((5 * n + 256) - (3 * n + 256)) words pool) (putMid (2 * n + 256) ((3 * n + 256) - (2 * n + 256)) floats dists) e r xs d
-  grown-row words floats e h pool dists np nd r xs a =
-      let w = words-lent n words pool floats dists (h .word-room) (h .float-room) np nd in
-      let f = floats-lent n words pool floats dists (h .word-room) (h .float-room) np nd in
-      let b = added-lent n words pool floats dists (h .word-room) (h .float-room) np nd a in
+  -- the row was added to the pool's regions, lent as parts
+  pub grown-row : (epoch : ℕ) (s : Stage) (h : Holding p epoch s) (pool : List ℕ) (dists : List Float)
+      (np : length pool ≡ length (poolWordsOf (p .n) (s .lent .words))) (nd : length dists ≡ length (poolDistsOf (p .n) (s .lent .floats)))
+      (r : ℕ) (xs : List ℕ)
+      → Added (p .n) (poolOf (p .n) s) (poolAs pool dists (s .stamp) r) xs (λ f. f ≡ d) → Grown p epoch s (returned (p .n) s pool dists r) xs d
+  grown-row epoch s h pool dists np nd r xs a =
+      let w = words-lent (p .n) s pool dists (h .word-room) (h .float-room) np nd in
+      let f = floats-lent (p .n) s pool dists (h .word-room) (h .float-room) np nd in
+      let b = added-lent (p .n) s pool dists (h .word-room) (h .float-room) np nd r a in
       record {
-        holding = record { room = room-kept n e beam (5 * n + 256) (3 * n + 256) words _ floats _ (h .room) w f; word-room = omega (arith, w .size, h .word-room); float-room = omega (arith, f .size, h .float-room); pooled = b .pooled };
+        holding =
+            record {
+              room = room-kept p epoch (stampsEnd (p .n)) (factorsAt (p .n)) (s .lent) _ (h .room) w f;
+              word-room = omega (arith, w .size, h .word-room);
+              float-room = omega (arith, f .size, h .float-room);
+              pooled = b .pooled;
+            };
         added = b;
-        words-kept = within-wider (3 * n + 256) (5 * n + 256) words _ w 0 (5 * n + 256) (omega arith) (omega arith);
-        floats-kept = within-wider (2 * n + 256) (3 * n + 256) floats _ f 0 (3 * n + 256) (omega arith) (omega arith);
+        words-kept = within-wider (poolAt (p .n)) (stampsEnd (p .n)) (s .lent .words) _ w 0 (stampsEnd (p .n)) (omega arith) (omega arith);
+        floats-kept = within-wider (poolDistsAt (p .n)) (factorsAt (p .n)) (s .lent .floats) _ f 0 (factorsAt (p .n)) (omega arith) (omega arith);
       }
 
 -- ---- the lists of several walks
@@ -106,26 +139,11 @@ pub joined-none : (f : ℕ → List ℕ) → joined (map f []) ≡ []
 unfolding joined
 joined-none f = refl
 
--- ---- the node's own row, as a part of the wide table lends it
-pub row-rule : (n width : ℕ) (wide : List ℕ) (node : ℕ) → Searchable n wide → Searchable n (part (node * width) (node * width + width) wide)
-row-rule n width wide node r k h =
-    let l : length (part (node * width) (node * width + width) wide) ≤ node * width + width - node * width = omega (arith, length-take ((node * width + width) - node * width) (drop (node * width) wide)) in
-    let m : length (part (node * width) (node * width + width) wide) ≤ length wide - node * width = omega (arith, length-take ((node * width + width) - node * width) (drop (node * width) wide), length-drop (node * width) wide) in
-    subst (λ (x : ℕ). (x ≡ padding → ⊥) → x < n) (sym (part-at (node * width) (node * width + width) wide k 0 (omega arith))) (r (node * width + k) (omega arith))
-
-row-part : (width : ℕ) (wide : List ℕ) (node : ℕ) → part (node * width) (node * width + width) wide ≡ row width wide node
-unfolding row
-row-part width wide node = rw add-sub-cancel-left refl
-
--- the row, the walk from the start, the walks from the seeds
-pub grown-pool : (n beam stamp : ℕ) (d : ℕ → ℕ) (width : ℕ) (wide : List ℕ) (node start : ℕ) (seeds : List ℕ)
-    (words₀ words₁ words₂ words₃ : List ℕ) (floats₀ floats₁ floats₂ floats₃ : List Float) (len₁ len₂ len₃ e₁ e₂ e₃ : ℕ)
-    → Grown n beam stamp words₀ floats₀ 0 words₁ floats₁ e₁ len₁ (ids (part (node * width) (node * width + width) wide)) d
-    → Grown n beam stamp words₁ floats₁ len₁ words₂ floats₂ e₂ len₂ (visits d width wide n beam start) d
-    → Grown n beam stamp words₂ floats₂ len₂ words₃ floats₃ e₃ len₃ (joined (map (visits d width wide n beam) seeds)) d
-    → Grown n beam stamp words₀ floats₀ 0 words₃ floats₃ e₃ len₃ (pooledIds d width wide n beam node start seeds) d
-unfolding pooledIds joined
-grown-pool n beam stamp d width wide node start seeds words₀ words₁ words₂ words₃ floats₀ floats₁ floats₂ floats₃ len₁ len₂ len₃ e₁ e₂ e₃ a b c =
-    grown-then n beam stamp d words₀ words₁ words₃ floats₀ floats₁ floats₃ 0 len₁ len₃ e₁ e₃ _ _
-    (subst (λ (l : List ℕ). Grown n beam stamp words₀ floats₀ 0 words₁ floats₁ e₁ len₁ (ids l) d) (row-part width wide node) a)
-    (grown-then n beam stamp d words₁ words₂ words₃ floats₁ floats₂ floats₃ len₁ len₂ len₃ e₂ e₃ _ _ b c)
+-- ---- the row, the walk from the start, the walks from the seeds
+module _ (p : Plan) (d : ℕ → ℕ) (wide : List ℕ) (node start : ℕ) (seeds : List ℕ) (e₁ e₂ e₃ : ℕ) (s₀ s₁ s₂ s₃ : Stage) where
+  pub grown-pool : Grown p e₁ s₀ s₁ (ids (part (node * p .width) (node * p .width + p .width) wide)) d → Grown p e₂ s₁ s₂ (visits p d wide start) d
+      → Grown p e₃ s₂ s₃ (joined (map (visits p d wide) seeds)) d → Grown p e₃ s₀ s₃ (pooledIds p d wide node start seeds) d
+  unfolding pooledIds joined
+  grown-pool a b c =
+      grown-then p d e₁ e₃ s₀ s₁ s₃ _ _ (subst (λ (l : List ℕ). Grown p e₁ s₀ s₁ (ids l) d) (part-row (p .width) wide node) a)
+      (grown-then p d e₂ e₃ s₁ s₂ s₃ _ _ b c)

@@ -1,7 +1,7 @@
--- The pool's stretches lent, and come back: what is in them, and that nothing else differs.
-use mathlib.Core.Path.{_≡_, refl, sym, ap, _∙_, subst}
+-- The pool's regions lent, and come back: what is in them, and that nothing else differs; and so for the visited, put into the pool one after another.
+use mathlib.Core.Path.{_≡_, sym, ap, _∙_, subst}
 use mathlib.Core.List.{List, [], _∷_, _++_}
-use Prim.Native.Nat.{ℕ, _+_, _*_, _-_, _≤_, _<_}
+use Prim.Native.Nat.{ℕ, _+_, _-_, _≤_, _<_}
 use native.Mathlib.Omega.{arith}
 use native.Mathlib.Numerals.{add-one}
 use lib.Ieee.{Float, nan}
@@ -9,83 +9,108 @@ use lib.ListN.{length, getD, take}
 use lib.Seq.{take-suc}
 use borrow.Rule.Slice.PartMut.{putMid}
 use Rattle.definition.specs.Metric.{whole}
-use Rattle.laws.specs.Parts.{Within, part-length, part-at, within-at, within-trans, put-part, put-within}
-use Rattle.greedy.specs.Scratch.{Room}
-use Rattle.batch_pool.specs.Pooled.{Pooled, Added}
-use Rattle.batch_pool.specs.Regions.{poolOf, distsOf, seenOf, Seen, Filled}
+use Rattle.laws.specs.Parts.{Within, part-length, part-at, within-at, within-trans, within-none, put-part, put-within}
+use Rattle.scratch.specs.Lent.{Lent}
+use Rattle.scratch.specs.Layout.{visitedAt, workAt, poolAt, stampsEnd, poolDistsAt, factorsAt}
+use Rattle.marks.specs.Marked.{visitedOf}
+use Rattle.greedy.specs.declared.Plan.{Plan}
+use Rattle.greedy.specs.Scratch.{space-kept, Room}
+use Rattle.batch_pool.specs.Pooled.{poolAs, Pooled, Added}
+use Rattle.batch_pool.specs.Regions.{Stage, stage, poolWordsOf, poolDistsOf, poolOf, Seen, Filled}
 use Rattle.batch_pool.proofs.Adding.{added-none, added-then}
 
-pub dists-length : (n : ℕ) (floats : List Float) → 3 * n + 256 ≤ length floats → length (distsOf n floats) ≡ n
-dists-length n floats h = part-length (2 * n + 256) (3 * n + 256) floats h ∙ omega arith
+pub dists-length : (n : ℕ) (floats : List Float) → factorsAt n ≤ length floats → length (poolDistsOf n floats) ≡ n
+dists-length n floats h = part-length (poolDistsAt n) (factorsAt n) floats h ∙ omega arith
 
--- pool and distances came back
-module _ (n : ℕ) (words pool : List ℕ) (floats dists : List Float) (wr : 5 * n + 256 ≤ length words) (fr : 3 * n + 256 ≤ length floats)
-    (np : length pool ≡ length (poolOf n words)) (nd : length dists ≡ length (distsOf n floats)) where
-  pub words-lent : Within (3 * n + 256) (5 * n + 256) words (putMid (3 * n + 256) ((5 * n + 256) - (3 * n + 256)) words pool)
-  words-lent = put-within (3 * n + 256) (5 * n + 256) words pool (omega arith) wr np
+-- words and distances of the pool came back, with r ids in it
+abbrev pub returned : ℕ → Stage → List ℕ → List Float → ℕ → Stage
+returned n s pool dists r =
+    stage (putMid (poolAt n) (stampsEnd n - poolAt n) (s .lent .words) pool) (putMid (poolDistsAt n) (factorsAt n - poolDistsAt n) (s .lent .floats) dists)
+    (s .stamp) r
 
-  pub floats-lent : Within (2 * n + 256) (3 * n + 256) floats (putMid (2 * n + 256) ((3 * n + 256) - (2 * n + 256)) floats dists)
-  floats-lent = put-within (2 * n + 256) (3 * n + 256) floats dists (omega arith) fr nd
+module _ (n : ℕ) (s : Stage) (pool : List ℕ) (dists : List Float) (wr : stampsEnd n ≤ length (s .lent .words))
+    (fr : factorsAt n ≤ length (s .lent .floats)) (np : length pool ≡ length (poolWordsOf n (s .lent .words)))
+    (nd : length dists ≡ length (poolDistsOf n (s .lent .floats))) where
+  pub words-lent : Within (poolAt n) (stampsEnd n) (s .lent .words) (putMid (poolAt n) (stampsEnd n - poolAt n) (s .lent .words) pool)
+  words-lent = put-within (poolAt n) (stampsEnd n) (s .lent .words) pool (omega arith) wr np
 
-  pub added-lent : {stamp len r : ℕ} {xs : List ℕ} {Known : (ℕ → ℕ) → Type 0} → Added n stamp (poolOf n words) (distsOf n floats) len pool dists r xs Known
-      → Added n stamp (poolOf n words) (distsOf n floats) len (poolOf n (putMid (3 * n + 256) ((5 * n + 256) - (3 * n + 256)) words pool)) (distsOf n (putMid (2 * n + 256) ((3 * n + 256) - (2 * n + 256)) floats dists)) r xs Known
-  added-lent {stamp} {len} {r} {xs} {Known} a =
-      rw (put-part (3 * n + 256) (5 * n + 256) words pool (omega arith) wr np, put-part (2 * n + 256) (3 * n + 256) floats dists (omega arith) fr nd) a
+  pub floats-lent : Within (poolDistsAt n) (factorsAt n) (s .lent .floats) (putMid (poolDistsAt n) (factorsAt n - poolDistsAt n) (s .lent .floats) dists)
+  floats-lent = put-within (poolDistsAt n) (factorsAt n) (s .lent .floats) dists (omega arith) fr nd
+
+  pub added-lent : {xs : List ℕ} {Known : (ℕ → ℕ) → Type 0} (r : ℕ) → Added n (poolOf n s) (poolAs pool dists (s .stamp) r) xs Known
+      → Added n (poolOf n s) (poolOf n (returned n s pool dists r)) xs Known
+  added-lent r a =
+      rw (
+        put-part (poolAt n) (stampsEnd n) (s .lent .words) pool (omega arith) wr np,
+        put-part (poolDistsAt n) (factorsAt n) (s .lent .floats) dists (omega arith) fr nd,
+      ) a
 
 -- a walk's room lies below the pool, so it is kept when nothing below the pool differs
-pub room-kept : (n epoch beam we fe : ℕ) (words₀ words : List ℕ) (floats₀ floats : List Float) → Room n epoch beam words₀ floats₀ → Within (3 * n + 256) we words₀ words → Within (2 * n + 256) fe floats₀ floats
-    → Room n epoch beam words floats
-room-kept n epoch beam we fe words₀ words floats₀ floats m w f =
+pub room-kept : (p : Plan) (epoch we fe : ℕ) (a b : Lent) → Room p epoch a → Within (poolAt (p .n)) we (a .words) (b .words)
+    → Within (poolDistsAt (p .n)) fe (a .floats) (b .floats) → Room p epoch b
+room-kept p epoch we fe a b m w f =
     record {
-      nodes = m .nodes;
-      word-room = omega (arith, m .word-room, w .size);
-      float-room = omega (arith, m .float-room, f .size);
-      marks = λ i h. subst (λ (k : ℕ). k ≤ epoch) (sym (within-at (3 * n + 256) we words₀ words w i 0 (omega arith))) (m .marks i h);
-      beam-le = m .beam-le;
+      space = space-kept (m .space) (w .size) (f .size);
+      marks = λ i h. subst (λ (k : ℕ). k ≤ epoch) (sym (within-at (poolAt (p .n)) we (a .words) (b .words) w i 0 (omega arith))) (m .marks i h);
     }
 
 -- ---- the visited, one after another
-pub filled-none : (n stamp len : ℕ) (words : List ℕ) (floats : List Float) → Pooled n stamp len (poolOf n words) → Filled n stamp words floats len words floats len 0
-filled-none n stamp len words floats p =
+pub filled-none : (n : ℕ) (s : Stage) → Pooled n (poolOf n s) → Filled n s s 0
+filled-none n s h =
     record {
-      added = added-none (distsOf n floats) (Seen n words floats 0) p;
-      words-kept = record { size = refl; below = refl; above = refl };
-      floats-kept = record { size = refl; below = refl; above = refl };
+      added = added-none (Seen n (s .lent) 0) h;
+      words-kept = within-none (poolAt n) (stampsEnd n) (s .lent .words);
+      floats-kept = within-none (poolDistsAt n) (factorsAt n) (s .lent .floats);
     }
 
-module _ (n stamp len : ℕ) (words₀ words : List ℕ) (floats₀ floats : List Float) (r k : ℕ) (f : Filled n stamp words₀ floats₀ len words floats r k) (h : k < n)
-    (wr : 5 * n + 256 ≤ length words₀) (fr : 3 * n + 256 ≤ length floats₀) where
-  pub filled-words : 5 * n + 256 ≤ length words
-  filled-words = omega (arith, f .words-kept .size)
+module _ (n : ℕ) (s₀ s : Stage) (k : ℕ) (f : Filled n s₀ s k) (h : k < n) (wr : stampsEnd n ≤ length (s₀ .lent .words))
+    (fr : factorsAt n ≤ length (s₀ .lent .floats)) where
+  abbrev words₀ : List ℕ
+  words₀ = s₀ .lent .words
 
-  pub filled-floats : 3 * n + 256 ≤ length floats
-  filled-floats = omega (arith, f .floats-kept .size)
+  abbrev words : List ℕ
+  words = s .lent .words
 
-  pub id-kept : getD words (n + k) 0 ≡ getD words₀ (n + k) 0
-  id-kept = within-at (3 * n + 256) (5 * n + 256) words₀ words (f .words-kept) (n + k) 0 (omega arith)
+  abbrev id : ℕ
+  id = getD words (visitedAt n + k) 0
 
-  dist-kept : getD floats k nan ≡ getD floats₀ k nan
-  dist-kept = within-at (2 * n + 256) (3 * n + 256) floats₀ floats (f .floats-kept) k nan (omega arith)
+  words-room : stampsEnd n ≤ length words
+  words-room = omega (arith, f .words-kept .size)
 
-  seen-length : length (seenOf n words₀) ≡ n
-  seen-length = part-length n (2 * n) words₀ (omega arith) ∙ omega arith
+  floats-room : factorsAt n ≤ length (s .lent .floats)
+  floats-room = omega (arith, f .floats-kept .size)
 
-  seen-more : take (k + 1) (seenOf n words₀) ≡ take k (seenOf n words₀) ++ (getD words (n + k) 0 ∷ [])
+  pub filled-dists : length (poolDistsOf n (s .lent .floats)) ≡ n
+  filled-dists = dists-length n (s .lent .floats) floats-room
+
+  pub id-kept : id ≡ getD words₀ (visitedAt n + k) 0
+  id-kept = within-at (poolAt n) (stampsEnd n) words₀ words (f .words-kept) (visitedAt n + k) 0 (omega arith)
+
+  dist-kept : getD (s .lent .floats) k nan ≡ getD (s₀ .lent .floats) k nan
+  dist-kept = within-at (poolDistsAt n) (factorsAt n) (s₀ .lent .floats) (s .lent .floats) (f .floats-kept) k nan (omega arith)
+
+  seen-length : length (visitedOf n words₀) ≡ n
+  seen-length = part-length (visitedAt n) (workAt n) words₀ (omega arith) ∙ omega arith
+
+  seen-more : take (k + 1) (visitedOf n words₀) ≡ take k (visitedOf n words₀) ++ (id ∷ [])
   seen-more =
       rw (add-one k)
-      (take-suc (seenOf n words₀) k 0 (omega (arith, seen-length))
-      ∙ ap (λ (x : ℕ). take k (seenOf n words₀) ++ (x ∷ [])) (part-at n (2 * n) words₀ k 0 (omega arith) ∙ sym id-kept))
+      (take-suc (visitedOf n words₀) k 0 (omega (arith, seen-length))
+      ∙ ap (λ (x : ℕ). take k (visitedOf n words₀) ++ (x ∷ [])) (part-at (visitedAt n) (workAt n) words₀ k 0 (omega arith) ∙ sym id-kept))
 
-  pub filled-more : (pool : List ℕ) (dists : List Float) (np : length pool ≡ length (poolOf n words)) (nd : length dists ≡ length (distsOf n floats)) (r′ : ℕ)
-      → Added n stamp (poolOf n words) (distsOf n floats) r pool dists r′ (getD words (n + k) 0 ∷ []) (λ d. getD floats k nan ≡ whole (d (getD words (n + k) 0)))
-      → Filled n stamp words₀ floats₀ len (putMid (3 * n + 256) ((5 * n + 256) - (3 * n + 256)) words pool) (putMid (2 * n + 256) ((3 * n + 256) - (2 * n + 256)) floats dists) r′ (k + 1)
-  filled-more pool dists np nd r′ a =
+  pub filled-more : (pool : List ℕ) (dists : List Float) (np : length pool ≡ length (poolWordsOf n words))
+      (nd : length dists ≡ length (poolDistsOf n (s .lent .floats))) (r : ℕ)
+      → Added n (poolOf n s) (poolAs pool dists (s .stamp) r) (id ∷ []) (λ d. getD (s .lent .floats) k nan ≡ whole (d id))
+      → Filled n s₀ (returned n s pool dists r) (k + 1)
+  filled-more pool dists np nd r a =
       record {
         added =
             rw seen-more
-            (added-then (Seen n words₀ floats₀ (k + 1)) (f .added) (added-lent n words pool floats dists filled-words filled-floats np nd a)
-            (λ d s j l. s j (omega arith))
-            (λ d s. dist-kept ∙ s k (omega arith) ∙ ap (λ (x : ℕ). whole (d x)) (sym id-kept)));
-        words-kept = within-trans (3 * n + 256) (5 * n + 256) words₀ words _ (f .words-kept) (words-lent n words pool floats dists filled-words filled-floats np nd);
-        floats-kept = within-trans (2 * n + 256) (3 * n + 256) floats₀ floats _ (f .floats-kept) (floats-lent n words pool floats dists filled-words filled-floats np nd);
+            (added-then (Seen n (s₀ .lent) (k + 1)) (f .added) (added-lent n s pool dists words-room floats-room np nd r a)
+            (λ d known j l. known j (omega arith))
+            (λ d known. dist-kept ∙ known k (omega arith) ∙ ap (λ (x : ℕ). whole (d x)) (sym id-kept)));
+        words-kept = within-trans (poolAt n) (stampsEnd n) words₀ words _ (f .words-kept) (words-lent n s pool dists words-room floats-room np nd);
+        floats-kept =
+            within-trans (poolDistsAt n) (factorsAt n) (s₀ .lent .floats) (s .lent .floats) _ (f .floats-kept)
+            (floats-lent n s pool dists words-room floats-room np nd);
       }

@@ -1,7 +1,7 @@
--- What a walk visits: entries, each with its distance; and so the scratch holds them.
+-- What a walk visits: entries, each with its distance, since the start and every word of a row that is no padding is one; and so the scratch holds them.
 use mathlib.Core.Path.{_≡_, refl, sym, ap, _∙_, subst}
 use mathlib.Core.Bool.{Bool, true, false, _||_, cond, true≢false}
-use mathlib.Core.List.{List, [], _∷_, map}
+use mathlib.Core.List.{List, [], _∷_}
 use Prim.Native.Nat.{ℕ, zero, suc, _+_, _*_, _<_}
 use native.Mathlib.Nat.{zero-add}
 use native.Mathlib.Omega.{arith}
@@ -15,17 +15,25 @@ use Rattle.definition.specs.Metric.{whole}
 use Rattle.definition.specs.Tables.{pad, row}
 use Rattle.definition.specs.Beam.{Item, item, nobody, best}
 use Rattle.definition.specs.Greedy.{State, visitedIds, begin, meet, skipped, look, expand, popped, step, stops, steps, greedy}
+use Rattle.laws.specs.All.{All, all-at, all-of, all-append, all-take, all-drop}
+use Rattle.laws.specs.Mapped.{map-at}
 use Rattle.laws.specs.Truth.{either}
-use Rattle.laws.specs.Parts.{part, part-at, part-length}
-use Rattle.laws.specs.Words.{padding, Searchable}
-use Rattle.prune_items.specs.Items.{All}
-use Rattle.prune_items.specs.Held.{all-at, all-append, all-take, all-drop}
-use Rattle.greedy.specs.Scratch.{Walks}
-use Rattle.batch_pool.specs.Regions.{seenOf, Seen, SeenBelow, visits}
+use Rattle.laws.specs.Parts.{part-at, part-length}
+use Rattle.laws.specs.Words.{Searchable}
+use Rattle.scratch.specs.Lent.{Lent}
+use Rattle.scratch.specs.Layout.{visitedAt, workAt, workDistsAt}
+use Rattle.marks.specs.Marked.{visitedOf}
+use Rattle.greedy.specs.declared.Plan.{Plan}
+use Rattle.greedy.specs.declared.Walked.{Walked}
+use Rattle.greedy.specs.Scratch.{walkOf, visitedDistsOf, Walks}
+use Rattle.batch_pool.specs.Regions.{Seen, SeenBelow, visits}
 
 -- P is whatever the start has, and every word of a row that is no padding
 module _ (P : Item → Type 0) (d : ℕ → ℕ) (beam : ℕ) where
-  look-all : (s : State) (w : ℕ) → (¬ (w ≡ pad) → P (item (d w) w)) → All P (s .visited) → All P (look d beam s w .visited)
+  abbrev Real : ℕ → Type 0
+  Real w = ¬ (w ≡ pad) → P (item (d w) w)
+
+  look-all : (s : State) (w : ℕ) → Real w → All P (s .visited) → All P (look d beam s w .visited)
   unfolding look skipped meet
   look-all s w p a = go (eqb w pad) (isIn w (visitedIds s)) refl
     where
@@ -34,12 +42,12 @@ module _ (P : Item → Type 0) (d : ℕ → ℕ) (beam : ℕ) where
       go false true e = a
       go false false e = all-append P (s .visited) (item (d w) w ∷ []) a (p (λ q. true≢false (sym (eq-eqb w pad q) ∙ e)), tt)
 
-  expand-all : (s : State) (ws : List ℕ) → All (λ (w : ℕ). ¬ (w ≡ pad) → P (item (d w) w)) ws → All P (s .visited) → All P (expand d beam s ws .visited)
+  expand-all : (s : State) (ws : List ℕ) → All Real ws → All P (s .visited) → All P (expand d beam s ws .visited)
   unfolding expand
   expand-all s [] p a = a
   expand-all s (w ∷ ws) p a = expand-all (look d beam s w) ws (p .1) (look-all s w (p .0) a)
 
-  module _ (rows : ℕ → List ℕ) (words : (i : ℕ) → All (λ (w : ℕ). ¬ (w ≡ pad) → P (item (d w) w)) (rows i)) where
+  module _ (rows : ℕ → List ℕ) (words : (i : ℕ) → All Real (rows i)) where
     steps-all : (fuel : ℕ) (s : State) → All P (s .visited) → All P (steps d rows beam fuel s .visited)
     unfolding steps step popped
     steps-all zero s a = a
@@ -51,62 +59,60 @@ module _ (P : Item → Type 0) (d : ℕ → ℕ) (beam : ℕ) where
     unfolding greedy begin
     greedy-all n start p = steps-all n (begin d beam start) (p, tt)
 
-all-of : (P : ℕ → Type 0) (l : List ℕ) → ((k : ℕ) → k < length l → P (getD l k 0)) → All P l
-all-of P [] f = tt
-all-of P (x ∷ xs) f = (f 0 (omega arith), all-of P xs (λ k h. f (suc k) (omega arith)))
-
-at-map : {A : Type 0} (f : Item → A) (l : List Item) (k : ℕ) (e : A) → k < length l → getD (map f l) k e ≡ f (getD l k nobody)
-at-map f [] k e h = absurd (omega arith)
-at-map f (x ∷ xs) zero e h = refl
-at-map f (x ∷ xs) (suc k) e h = at-map f xs k e (omega arith)
-
 -- an entry, with its distance
 abbrev Known : ℕ → (ℕ → ℕ) → Item → Type 0
 Known n d c = (c .id < n) × (c .dist ≡ d (c .id))
 
-rows-known : (n width : ℕ) (table : List ℕ) (d : ℕ → ℕ) → Searchable n table → (i : ℕ) → All (λ (w : ℕ). ¬ (w ≡ pad) → Known n d (item (d w) w)) (row width table i)
+rows-known : (n beam width : ℕ) (table : List ℕ) (d : ℕ → ℕ) → Searchable n table → (i : ℕ) → All (Real (Known n d) d beam) (row width table i)
 unfolding row pad
-rows-known n width table d r i =
-    all-take (λ (w : ℕ). ¬ (w ≡ padding) → Known n d (item (d w) w)) width (drop (i * width) table)
-    (all-drop (λ (w : ℕ). ¬ (w ≡ padding) → Known n d (item (d w) w)) (i * width) table
-    (all-of (λ (w : ℕ). ¬ (w ≡ padding) → Known n d (item (d w) w)) table (λ k h q. (r k h q, refl))))
+rows-known n beam width table d r i =
+    all-take (Real (Known n d) d beam) width (drop (i * width) table)
+    (all-drop (Real (Known n d) d beam) (i * width) table (all-of (Real (Known n d) d beam) 0 table (λ k h q. (r k h q, refl))))
 
-module _ (n width beam : ℕ) (table : List ℕ) (d : ℕ → ℕ) (start : ℕ) (low : start < n) (rule : Searchable n table) where
-  visited-known : All (λ (c : Item). (c .id < n) × (c .dist ≡ d (c .id))) (greedy d (row width table) n beam start .visited)
-  visited-known = greedy-all (λ (c : Item). (c .id < n) × (c .dist ≡ d (c .id))) d beam (row width table) (rows-known n width table d rule) n start (low, refl)
+module _ (p : Plan) (table : List ℕ) (d : ℕ → ℕ) (start : ℕ) (low : start < p .n) (rule : Searchable (p .n) table) where
+  -- what the walk visits
+  abbrev seen : List Item
+  seen = walkOf p d table start .visited
 
-  module _ (epoch : ℕ) (words₀ words : List ℕ) (floats₀ floats : List Float) (e v w : ℕ) (k : Walks n epoch beam words₀ floats₀ words floats e v w (greedy d (row width table) n beam start)) where
-    seen-length : length (seenOf n words) ≡ n
-    seen-length = part-length n (2 * n) words (omega (arith, k .room .word-room)) ∙ omega arith
+  visited-known : All (Known (p .n) d) seen
+  visited-known = greedy-all (Known (p .n) d) d (p .beam) (row (p .width) table) (rows-known (p .n) (p .beam) (p .width) table d rule) (p .n) start (low, refl)
 
-    visited-count : length (greedy d (row width table) n beam start .visited) ≡ v
+  module _ (epoch : ℕ) (before after : Lent) (r : Walked) (k : Walks p epoch before after r (walkOf p d table start)) where
+    abbrev n : ℕ
+    n = p .n
+
+    seen-length : length (visitedOf n (after .words)) ≡ n
+    seen-length = part-length (visitedAt n) (workAt n) (after .words) (omega (arith, k .room .space .word-room)) ∙ omega arith
+
+    visited-count : length seen ≡ r .visited
     visited-count =
-        sym (length-map (greedy d (row width table) n beam start .visited) (λ (c : Item). c .id)) ∙ ap length (sym (k .visited-is .ids-are)) ∙ length-take-le v (seenOf n words) (omega (arith, seen-length, k .visited-le))
+        sym (length-map seen (λ (c : Item). c .id)) ∙ ap length (sym (k .visited-is .ids-are))
+        ∙ length-take-le (r .visited) (visitedOf n (after .words)) (omega (arith, seen-length, k .visited-le))
 
-    id-at : (j : ℕ) → j < v → getD words (n + j) 0 ≡ getD (greedy d (row width table) n beam start .visited) j nobody .id
+    id-at : (j : ℕ) → j < r .visited → getD (after .words) (visitedAt n + j) 0 ≡ getD seen j nobody .id
     id-at j h =
-        sym (part-at n (2 * n) words j 0 (omega (arith, k .visited-le)))
-        ∙ sym (getD-take v (seenOf n words) j 0 h)
+        sym (part-at (visitedAt n) (workAt n) (after .words) j 0 (omega (arith, k .visited-le)))
+        ∙ sym (getD-take (r .visited) (visitedOf n (after .words)) j 0 h)
         ∙ ap (λ (l : List ℕ). getD l j 0) (k .visited-is .ids-are)
-        ∙ at-map (λ (c : Item). c .id) (greedy d (row width table) n beam start .visited) j 0 (omega (arith, visited-count))
+        ∙ map-at (λ (c : Item). c .id) nobody 0 seen j (omega (arith, visited-count))
 
-    dist-at : (j : ℕ) → j < v → getD floats j nan ≡ whole (getD (greedy d (row width table) n beam start .visited) j nobody .dist)
+    dist-at : (j : ℕ) → j < r .visited → getD (after .floats) j nan ≡ whole (getD seen j nobody .dist)
     dist-at j h =
-        ap (λ (i : ℕ). getD floats i nan) (sym (zero-add j))
-        ∙ sym (part-at 0 n floats j nan (omega (arith, k .visited-le)))
-        ∙ sym (getD-take v (part 0 n floats) j nan h)
+        ap (λ (i : ℕ). getD (after .floats) i nan) (sym (zero-add j))
+        ∙ sym (part-at 0 (workDistsAt n) (after .floats) j nan (omega (arith, k .visited-le)))
+        ∙ sym (getD-take (r .visited) (visitedDistsOf n (after .floats)) j nan h)
         ∙ ap (λ (l : List Float). getD l j nan) (k .visited-is .dists-are)
-        ∙ at-map (λ (c : Item). whole (c .dist)) (greedy d (row width table) n beam start .visited) j nan (omega (arith, visited-count))
+        ∙ map-at (λ (c : Item). whole (c .dist)) nobody nan seen j (omega (arith, visited-count))
 
-    known-at : (j : ℕ) → j < v → (getD (greedy d (row width table) n beam start .visited) j nobody .id < n) × (getD (greedy d (row width table) n beam start .visited) j nobody .dist ≡ d (getD (greedy d (row width table) n beam start .visited) j nobody .id))
-    known-at j h = all-at (λ (c : Item). (c .id < n) × (c .dist ≡ d (c .id))) nobody (greedy d (row width table) n beam start .visited) visited-known j (omega (arith, visited-count))
+    known-at : (j : ℕ) → j < r .visited → Known n d (getD seen j nobody)
+    known-at j h = all-at (Known n d) nobody seen visited-known j (omega (arith, visited-count))
 
-    pub seen-below : SeenBelow n words v
+    pub seen-below : SeenBelow n (after .words) (r .visited)
     seen-below j h = subst (λ (i : ℕ). i < n) (sym (id-at j h)) (known-at j h .0)
 
-    pub seen-known : Seen n words floats v d
+    pub seen-known : Seen n after (r .visited) d
     seen-known j h = dist-at j h ∙ ap whole (known-at j h .1 ∙ ap d (sym (id-at j h)))
 
-    pub seen-visits : take v (seenOf n words) ≡ visits d width table n beam start
+    pub seen-visits : take (r .visited) (visitedOf n (after .words)) ≡ visits p d table start
     unfolding visits visitedIds
     seen-visits = k .visited-is .ids-are

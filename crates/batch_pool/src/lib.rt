@@ -3,15 +3,16 @@
 use greedy::Plan;
 ghost use mathlib.Core.Path.{_≡_};
 ghost use mathlib.Core.List.{[], _∷_, map};
-ghost use Prim.Native.Nat.{_+_, _*_, _≤_, _<_};
+ghost use Prim.Native.Nat.{_≤_, _<_};
 ghost use lib.ListN.{length};
 ghost use Rattle.definition.specs.Metric.{whole, fromQuery};
 ghost use Rattle.definition.specs.Lists.{joined};
-ghost use Rattle.definition.specs.Tables.{row, ids};
-ghost use Rattle.laws.specs.Words.{Searchable};
-ghost use Rattle.greedy.specs.Scratch.{Measures};
-ghost use Rattle.batch_pool.specs.Pooled.{Pooled, Added};
-ghost use Rattle.batch_pool.specs.Regions.{poolOf, SeenBelow, Filled, Ground, Holding, Grown, Below, visits, pooledIds};
+ghost use Rattle.definition.specs.Tables.{ids};
+ghost use Rattle.laws.specs.Words.{Searchable, Below};
+ghost use Rattle.scratch.specs.Layout.{stampsEnd, factorsAt};
+ghost use Rattle.greedy.specs.Scratch.{Measures, Ground};
+ghost use Rattle.batch_pool.specs.Pooled.{poolAs, Pooled, Added};
+ghost use Rattle.batch_pool.specs.Regions.{stage, poolOf, SeenBelow, Filled, Holding, Grown, visits, pooledIds};
 
 // One id with its distance, unless its mark is the stamp. The ids stand in front, the marks of the n entries from n on.
 fn add_once(
@@ -23,9 +24,10 @@ fn add_once(
     id: u32,
     dist: f32,
 ) -> usize
-    requires { ⌜ Pooled n stamp len (now pool) ⌝ }
+    requires { ⌜ Pooled n (poolAs (now pool) (now dists) stamp len) ⌝ }
     requires { ⌜ (n ≤ 65536) × (n ≤ length (now dists)) × (id < n) ⌝ }
-    ensures { λ r. ⌜ Added n stamp (now (pool .entry)) (now (dists .entry)) len (now (pool .exit)) (now (dists .exit)) r (id ∷ []) (λ d. dist ≡ whole (d id)) ⌝ }
+    ensures { λ r. ⌜ Added n (poolAs (now (pool .entry)) (now (dists .entry)) stamp len) (poolAs (now (pool .exit)) (now (dists .exit)) stamp r)
+        (id ∷ []) (λ d. dist ≡ whole (d id)) ⌝ }
 {
     let i = id as usize;
     let mark = n + i;
@@ -49,17 +51,18 @@ fn add_row(
     vectors: &[u8],
     query: &[u8],
 ) -> usize
-    requires { ⌜ Pooled n stamp 0 (now pool) ⌝ }
+    requires { ⌜ Pooled n (poolAs (now pool) (now dists) stamp 0) ⌝ }
     requires { ⌜ (n ≤ 65536) × (n ≤ length (now dists)) ⌝ }
     requires { ⌜ Measures n dim (now vectors) (now query) ⌝ }
     requires { ⌜ Searchable n (now row) ⌝ }
-    ensures { λ r. ⌜ Added n stamp (now (pool .entry)) (now (dists .entry)) 0 (now (pool .exit)) (now (dists .exit)) r (ids (now (row .entry))) (λ d. d ≡ fromQuery dim (now (vectors .entry)) (now (query .entry))) ⌝ }
+    ensures { λ r. ⌜ Added n (poolAs (now (pool .entry)) (now (dists .entry)) stamp 0) (poolAs (now (pool .exit)) (now (dists .exit)) stamp r)
+        (ids (now (row .entry))) (λ d. d ≡ fromQuery dim (now (vectors .entry)) (now (query .entry))) ⌝ }
 {
     let mut len = 0;
     let mut k = 0;
     while k < row.len() {
         let id = row[k];
-        if id != 0xFFFFFFFF {
+        if id != table::PADDING {
             let dist = metric::from_query(dim, vectors, query, id as usize);
             len = add_once(pool, dists, n, stamp, len, id, dist);
         }
@@ -68,7 +71,8 @@ fn add_row(
     len
 }
 
-// All that a walk visited: it left their ids and distances in the scratch.
+// All that a walk visited: it left their ids and distances in the scratch. The pool's regions are those of crate scratch: its ids and then its marks in the
+// words, its distances up to the factors of pruning in the floats.
 fn add_visited(
     words: &mut [u32],
     floats: &mut [f32],
@@ -77,23 +81,25 @@ fn add_visited(
     stamp: u32,
     len: usize,
 ) -> usize
-    requires { ⌜ Pooled n stamp len (poolOf n (now words)) ⌝ }
-    requires { ⌜ (n ≤ 65536) × (5 * n + 256 ≤ length (now words)) × (3 * n + 256 ≤ length (now floats)) × (visited ≤ n) ⌝ }
+    requires { ⌜ Pooled n (poolOf n (stage (now words) (now floats) stamp len)) ⌝ }
+    requires { ⌜ (n ≤ 65536) × (stampsEnd n ≤ length (now words)) × (factorsAt n ≤ length (now floats)) × (visited ≤ n) ⌝ }
     requires { ⌜ SeenBelow n (now words) visited ⌝ }
-    ensures { λ r. ⌜ Filled n stamp (now (words .entry)) (now (floats .entry)) len (now (words .exit)) (now (floats .exit)) r visited ⌝ }
+    ensures { λ r. ⌜ Filled n (stage (now (words .entry)) (now (floats .entry)) stamp len) (stage (now (words .exit)) (now (floats .exit)) stamp r) visited ⌝ }
 {
+    let pool_at = scratch::pool_at(n);
+    let pool_end = scratch::stamps_end(n);
+    let dists_at = scratch::pool_dists_at(n);
+    let dists_end = scratch::factors_at(n);
     let mut more = len;
     let mut k = 0;
     while k < visited {
+        // the ids of the visited lie from n on
         let at = n + k;
         let id = words[at];
         let dist = floats[k];
-        let pool_at = 3 * n + 256;
-        let pool_end = 5 * n + 256;
-        let dists_at = 2 * n + 256;
         more = add_once(
             &mut words[pool_at..pool_end],
-            &mut floats[dists_at..pool_at],
+            &mut floats[dists_at..dists_end],
             n,
             stamp,
             more,
@@ -124,10 +130,13 @@ fn add_walk(
     len: usize,
     start: u32,
 ) -> Collected
-    requires { ⌜ Ground (p .n) (p .dim) (p .width) (now vectors) (now query) (now wide) ⌝ }
-    requires { ⌜ Holding (p .n) epoch (p .beam) stamp len (now words) (now floats) ⌝ }
+    requires { ⌜ Ground p (now vectors) (now query) (now wide) ⌝ }
+    requires { ⌜ Holding p epoch (stage (now words) (now floats) stamp len) ⌝ }
     requires { ⌜ start < p .n ⌝ }
-    ensures { λ r. ⌜ Grown (p .n) (p .beam) stamp (now (words .entry)) (now (floats .entry)) len (now (words .exit)) (now (floats .exit)) (r .epoch) (r .len) (visits (fromQuery (p .dim) (now (vectors .entry)) (now (query .entry))) (p .width) (now (wide .entry)) (p .n) (p .beam) start) (fromQuery (p .dim) (now (vectors .entry)) (now (query .entry))) ⌝ }
+    ensures { λ r. ⌜ Grown p (r .epoch) (stage (now (words .entry)) (now (floats .entry)) stamp len)
+        (stage (now (words .exit)) (now (floats .exit)) stamp (r .len))
+        (visits p (fromQuery (p .dim) (now (vectors .entry)) (now (query .entry))) (now (wide .entry)) start)
+        (fromQuery (p .dim) (now (vectors .entry)) (now (query .entry))) ⌝ }
 {
     let s = greedy::greedy(words, floats, vectors, query, wide, p, epoch, start);
     let more = add_visited(words, floats, p.n, s.visited, stamp, len);
@@ -149,10 +158,13 @@ fn add_walks(
     seeds: &[u32],
     c: Collected,
 ) -> Collected
-    requires { ⌜ Ground (p .n) (p .dim) (p .width) (now vectors) (now query) (now wide) ⌝ }
-    requires { ⌜ Holding (p .n) (c .epoch) (p .beam) stamp (c .len) (now words) (now floats) ⌝ }
+    requires { ⌜ Ground p (now vectors) (now query) (now wide) ⌝ }
+    requires { ⌜ Holding p (c .epoch) (stage (now words) (now floats) stamp (c .len)) ⌝ }
     requires { ⌜ Below (p .n) (now seeds) ⌝ }
-    ensures { λ r. ⌜ Grown (p .n) (p .beam) stamp (now (words .entry)) (now (floats .entry)) (c .len) (now (words .exit)) (now (floats .exit)) (r .epoch) (r .len) (joined (map (visits (fromQuery (p .dim) (now (vectors .entry)) (now (query .entry))) (p .width) (now (wide .entry)) (p .n) (p .beam)) (now (seeds .entry)))) (fromQuery (p .dim) (now (vectors .entry)) (now (query .entry))) ⌝ }
+    ensures { λ r. ⌜ Grown p (r .epoch) (stage (now (words .entry)) (now (floats .entry)) stamp (c .len))
+        (stage (now (words .exit)) (now (floats .exit)) stamp (r .len))
+        (joined (map (visits p (fromQuery (p .dim) (now (vectors .entry)) (now (query .entry))) (now (wide .entry))) (now (seeds .entry))))
+        (fromQuery (p .dim) (now (vectors .entry)) (now (query .entry))) ⌝ }
 {
     let mut s = c;
     let mut k = 0;
@@ -188,21 +200,25 @@ pub fn collect_pool(
     start: u32,
     seeds: &[u32],
 ) -> Collected
-    requires { ⌜ Ground (p .n) (p .dim) (p .width) (now vectors) (now query) (now wide) ⌝ }
-    requires { ⌜ Holding (p .n) epoch (p .beam) stamp 0 (now words) (now floats) ⌝ }
+    requires { ⌜ Ground p (now vectors) (now query) (now wide) ⌝ }
+    requires { ⌜ Holding p epoch (stage (now words) (now floats) stamp 0) ⌝ }
     requires { ⌜ (node < p .n) × (start < p .n) × Below (p .n) (now seeds) ⌝ }
-    ensures { λ r. ⌜ Grown (p .n) (p .beam) stamp (now (words .entry)) (now (floats .entry)) 0 (now (words .exit)) (now (floats .exit)) (r .epoch) (r .len) (pooledIds (fromQuery (p .dim) (now (vectors .entry)) (now (query .entry))) (p .width) (now (wide .entry)) (p .n) (p .beam) node start (now (seeds .entry))) (fromQuery (p .dim) (now (vectors .entry)) (now (query .entry))) ⌝ }
+    ensures { λ r. ⌜ Grown p (r .epoch) (stage (now (words .entry)) (now (floats .entry)) stamp 0)
+        (stage (now (words .exit)) (now (floats .exit)) stamp (r .len))
+        (pooledIds p (fromQuery (p .dim) (now (vectors .entry)) (now (query .entry))) (now (wide .entry)) node start (now (seeds .entry)))
+        (fromQuery (p .dim) (now (vectors .entry)) (now (query .entry))) ⌝ }
 {
     let n = p.n;
     let width = p.width;
-    let pool_at = 3 * n + 256;
-    let pool_end = 5 * n + 256;
-    let dists_at = 2 * n + 256;
+    let pool_at = scratch::pool_at(n);
+    let pool_end = scratch::stamps_end(n);
+    let dists_at = scratch::pool_dists_at(n);
+    let dists_end = scratch::factors_at(n);
     let at = node * width;
     let end = at + width;
     let len = add_row(
         &mut words[pool_at..pool_end],
-        &mut floats[dists_at..pool_at],
+        &mut floats[dists_at..dists_end],
         n,
         stamp,
         &wide[at..end],

@@ -2,5 +2,4 @@
 pub mod Held
 pub mod ListLaws
 pub mod Order
-pub mod Caps
 pub mod Reading

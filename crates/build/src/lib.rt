@@ -2,9 +2,13 @@
 ghost use mathlib.Core.Path.{_≡_};
 ghost use Prim.Native.Nat.{_+_, _≤_, min};
 ghost use Rattle.definition.specs.Outcome.{OpenMeets, CloseMeets, BuildMeets};
+ghost use Rattle.given.specs.Given.{given};
+ghost use Rattle.given.specs.Listing.{listing};
+ghost use Rattle.given.specs.Held.{held};
 ghost use Rattle.build.specs.Runs.{RunsReady, RunsDone};
 use definition::Answer;
 use definition::Params;
+use given::Ground;
 
 // Opening rows copied to wide ones, or the number of the refusal.
 pub fn open(n: usize, degree: usize, opening: &[u32], wide: &mut [u32]) -> Answer
@@ -16,7 +20,7 @@ pub fn open(n: usize, degree: usize, opening: &[u32], wide: &mut [u32]) -> Answe
     if number != 0 {
         return answers::refused(number);
     }
-    let slack = checks::limits::slack(degree);
+    let slack = table::slack(degree);
     build_rows::open_rows(n, degree, slack, opening, wide);
     answers::done()
 }
@@ -33,7 +37,16 @@ pub fn close(
     floats: &mut [f32],
 ) -> Answer
     ensures { λ r. ⌜ CloseMeets
-        (record { n = n; dim = dim; vectors = now (vectors .entry); params = params; wide = now (wide .entry); closed = now (closed .entry); words = now (words .entry); floats = now (floats .entry) })
+        (record {
+          n = n;
+          dim = dim;
+          vectors = now (vectors .entry);
+          params = params;
+          wide = now (wide .entry);
+          closed = now (closed .entry);
+          words = now (words .entry);
+          floats = now (floats .entry);
+        })
         (record { answer = r; closed = now (closed .exit); words = now (words .exit); floats = now (floats .exit) }) ⌝ }
 {
     let number = checks_number::close_number(
@@ -49,17 +62,14 @@ pub fn close(
     if number != 0 {
         return answers::refused(number);
     }
-    let width = checks::limits::slack(params.degree);
-    build_rows::close_rows(
+    let width = table::slack(params.degree);
+    let g = Ground {
         n,
         dim,
-        vectors,
+        slack: width,
         params,
-        width,
-        wide,
-        closed,
-        &mut floats[0..750],
-    );
+    };
+    build_rows::close_rows(g, vectors, wide, closed, &mut floats[0..scratch::FACTORS]);
     scratch::clear_room(n, words, floats);
     answers::done()
 }
@@ -75,11 +85,8 @@ fn run_end(at: usize, n: usize) -> usize
 
 // The order in runs of 256, each a batch with as many groups of seeds.
 fn run_batches(
-    n: usize,
-    dim: usize,
+    g: Ground,
     vectors: &[u8],
-    params: Params,
-    slack: usize,
     start: u32,
     order: &[u32],
     seeds: &[u32],
@@ -87,21 +94,21 @@ fn run_batches(
     words: &mut [u32],
     floats: &mut [f32],
 )
-    requires { ⌜ RunsReady n dim (now vectors) params slack start (now order) (now seeds) (now wide) (now words) (now floats) ⌝ }
-    ensures { λ _. ⌜ RunsDone n dim (now (vectors .entry)) params slack start (now (order .entry)) (now (seeds .entry)) (now (wide .entry)) (now (words .entry)) (now (floats .entry)) (now (wide .exit)) (now (words .exit)) (now (floats .exit)) ⌝ }
+    requires { ⌜ RunsReady (given g (now vectors)) (listing start (now order) (now seeds)) (held (now wide) (now words) (now floats)) ⌝ }
+    ensures { λ _. ⌜ RunsDone (given g (now (vectors .entry))) (listing start (now (order .entry)) (now (seeds .entry)))
+        (held (now (wide .entry)) (now (words .entry)) (now (floats .entry)))
+        (held (now (wide .exit)) (now (words .exit)) (now (floats .exit))) ⌝ }
 {
-    let extra = params.extra;
+    let n = g.n;
+    let extra = g.params.extra;
     let mut at = 0;
     while at < n {
         let end = run_end(at, n);
         let from = at * extra;
         let to = end * extra;
         batch::run_batch(
-            n,
-            dim,
+            g,
             vectors,
-            params,
-            slack,
             start,
             &order[at..end],
             &seeds[from..to],
@@ -129,7 +136,20 @@ pub fn build(
     floats: &mut [f32],
 ) -> Answer
     ensures { λ r. ⌜ BuildMeets
-        (record { n = n; dim = dim; vectors = now (vectors .entry); params = params; start = start; order = now (order .entry); seeds = now (seeds .entry); opening = now (opening .entry); wide = now (wide .entry); closed = now (closed .entry); words = now (words .entry); floats = now (floats .entry) })
+        (record {
+          n = n;
+          dim = dim;
+          vectors = now (vectors .entry);
+          params = params;
+          start = start;
+          order = now (order .entry);
+          seeds = now (seeds .entry);
+          opening = now (opening .entry);
+          wide = now (wide .entry);
+          closed = now (closed .entry);
+          words = now (words .entry);
+          floats = now (floats .entry);
+        })
         (record { answer = r; wide = now (wide .exit); closed = now (closed .exit); words = now (words .exit); floats = now (floats .exit) }) ⌝ }
 {
     let number = checks_number::build_number(
@@ -149,31 +169,16 @@ pub fn build(
     if number != 0 {
         return answers::refused(number);
     }
-    let slack = checks::limits::slack(params.degree);
+    let slack = table::slack(params.degree);
     build_rows::open_rows(n, params.degree, slack, opening, wide);
-    run_batches(
+    let g = Ground {
         n,
         dim,
-        vectors,
-        params,
         slack,
-        start,
-        order,
-        seeds,
-        wide,
-        words,
-        floats,
-    );
-    build_rows::close_rows(
-        n,
-        dim,
-        vectors,
         params,
-        slack,
-        wide,
-        closed,
-        &mut floats[0..750],
-    );
+    };
+    run_batches(g, vectors, start, order, seeds, wide, words, floats);
+    build_rows::close_rows(g, vectors, wide, closed, &mut floats[0..scratch::FACTORS]);
     scratch::clear_room(n, words, floats);
     answers::done()
 }

@@ -1,4 +1,3 @@
--- Opening, copying and closing rows, step by step.
+-- Opening and closing rows, step by step.
 pub mod Opening
-pub mod Copying
 pub mod Closing

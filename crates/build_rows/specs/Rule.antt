@@ -1,22 +1,17 @@
 -- What the build rule gives of a row: ids that are apart, then padding.
-use Prim.Native.Nat.{ℕ, _+_, _-_, _*_, _≤_, _<_}
+use Prim.Native.Nat.{ℕ, _+_, _-_, _≤_, _<_}
 use native.Mathlib.Omega.{arith}
 use mathlib.Core.Path.{_≡_, ap, _∙_}
 use mathlib.Core.Bool.{true, not, _&&_}
 use mathlib.Core.List.{List, _++_, append-assoc}
 use lib.Dec.{ltb}
-use lib.ListN.{length, take, drop, replicate, replicate-append-replicate}
+use lib.ListN.{length, replicate, replicate-append-replicate}
 use Rattle.definition.specs.Lists.{each, upto, isIn, distinct}
 use Rattle.definition.specs.Tables.{pad, row, ids, padded, idsFirst, buildRow, buildRule}
 use Rattle.laws.specs.Truth.{and-both}
 use Rattle.laws.specs.Members.{each-run}
 use Rattle.laws.specs.Apart.{Apart, distinct-apart}
 use Rattle.laws.specs.Tables.{ids-few, ids-split}
-
--- the lent part is the row
-pub part-row : (width : ℕ) (table : List ℕ) (i : ℕ) → take (i * width + width - i * width) (drop (i * width) table) ≡ row width table i
-unfolding row
-part-row width table i = let q : i * width + width - i * width ≡ width = omega arith in ap (λ (k : ℕ). take k (drop (i * width) table)) q
 
 pub rule-row : (n width : ℕ) (table : List ℕ) (i : ℕ) → buildRule n width table ≡ true → i < n → buildRow n i (row width table i) ≡ true
 unfolding buildRule upto
@@ -41,4 +36,5 @@ module _ (n own : ℕ) (words : List ℕ) (r : buildRow n own words ≡ true) wh
       let q : (length words - length (ids words)) + (width - length words) ≡ width - length (ids words) = omega arith in
       ap (λ (l : List ℕ). l ++ replicate (width - length words) pad) (ids-split words (first-two .0))
       ∙ append-assoc (ids words) (replicate (length words - length (ids words)) pad) (replicate (width - length words) pad)
-      ∙ ap (λ (l : List ℕ). ids words ++ l) (replicate-append-replicate (length words - length (ids words)) (width - length words) pad ∙ ap (λ (k : ℕ). replicate k pad) q)
+      ∙ ap (λ (l : List ℕ). ids words ++ l)
+      (replicate-append-replicate (length words - length (ids words)) (width - length words) pad ∙ ap (λ (k : ℕ). replicate k pad) q)

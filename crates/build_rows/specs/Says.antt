@@ -4,47 +4,60 @@ use mathlib.Core.Path.{_≡_}
 use mathlib.Core.Bool.{true}
 use mathlib.Core.List.{List}
 use lib.ListN.{length, take}
-use Rattle.definition.specs.declared.Params.{Params}
 use Rattle.definition.specs.Tables.{row, ids, buildRow}
 use Rattle.definition.specs.Slack.{slack}
 use Rattle.definition.specs.Batch.{wideIds}
 use Rattle.definition.specs.Build.{closedIds}
-use Rattle.definition.specs.Outcome.{settingOf}
 use Rattle.laws.specs.Words.{Searchable}
-use Rattle.checks_number.specs.Fit.{Ruled}
-use Rattle.prune.specs.Says.{Stretched}
-use Rattle.prune_fit.specs.Given.{Given}
+use Rattle.scratch.specs.Layout.{mostFactors}
+use Rattle.given.specs.Given.{Given, setting, Limits}
+use Rattle.table.specs.Rows.{Stretched}
+use Rattle.theory.specs.Rule.{Ruled}
 
--- `width` is the slack, and `size` the length of the wide table
-pub record OpenReady (n degree width : ℕ) (opening : List ℕ) (size : ℕ) : Type 0 where
-  pub few : n ≤ 65536
-  pub degree-few : degree ≤ 64
-  pub slack-is : width ≡ slack degree
-  pub opening-rows : Ruled n degree opening
-  pub table : size ≡ n * width
+-- what is opened: the opening rows of n entries; `width` is the slack
+pub record Opened : Type 0 where
+  pub n : ℕ
+  pub degree : ℕ
+  pub width : ℕ
+  pub rows : List ℕ
+
+abbrev pub opened : ℕ → ℕ → ℕ → List ℕ → Opened
+opened n degree width rows = record { n = n; degree = degree; width = width; rows = rows }
+
+-- `size` is the length of the wide table
+pub record OpenReady (o : Opened) (size : ℕ) : Type 0 where
+  pub nodes : o .n ≤ 65536
+  pub degree-few : o .degree ≤ 64
+  pub width-is : o .width ≡ slack (o .degree)
+  pub rows : Ruled (o .n) (o .degree) (o .rows)
+  pub table : size ≡ o .n * o .width
 
 -- the first r words are the ids of the row
 pub record IdsCopied (words out : List ℕ) (r : ℕ) : Type 0 where
   pub are : take r out ≡ ids words
   pub most : r ≤ length words
 
--- one row of the wide table, to be closed into a table of `size` words
-pub record RowCloses (n dim : ℕ) (vectors : List ℕ) (p : Params) (width i : ℕ) (wide : List ℕ) (size room : ℕ) : Type 0 where
-  pub given : Given n dim vectors p width
-  pub within : i < n
-  pub has : i * width + width ≤ length wide
-  pub to : i * p .degree + p .degree ≤ size
-  pub rule : buildRow n i (row width wide i) ≡ true
-  pub words : Searchable n (row width wide i)
-  pub factors : 750 ≤ room
+-- row i of the wide table, to be closed into a table of `size` words; `room` is how many factors there are
+pub record RowCloses (g : Given) (i : ℕ) (wide : List ℕ) (size room : ℕ) : Type 0 where
+  pub limits : Limits g
+  pub within : i < g .n
+  pub has : i * g .width + g .width ≤ length wide
+  pub to : i * g .params .degree + g .params .degree ≤ size
+  pub rule : buildRow (g .n) i (row (g .width) wide i) ≡ true
+  pub words : Searchable (g .n) (row (g .width) wide i)
+  pub factors : mostFactors ≤ room
+
+-- the ids of row i in the closed table
+unfoldable pub closedTo : Given → List ℕ → ℕ → List ℕ
+closedTo g wide i = closedIds (setting g) i (wideIds (setting g) wide i)
 
 -- only row i of the closed table differs
-pub record RowClosed (n dim : ℕ) (vectors : List ℕ) (p : Params) (i : ℕ) (wide closed₀ closed : List ℕ) : Type 0 where
-  pub row : Stretched closed₀ closed i (p .degree) (length (closedIds (settingOf n dim vectors p) i (wideIds (settingOf n dim vectors p) wide i))) (closedIds (settingOf n dim vectors p) i (wideIds (settingOf n dim vectors p) wide i))
+pub record RowClosed (g : Given) (i : ℕ) (wide closed₀ closed : List ℕ) : Type 0 where
+  pub row : Stretched closed₀ closed i (g .params .degree) (length (closedTo g wide i)) (closedTo g wide i)
 
 -- `size` is the length of the closed table, and `room` that of the factors
-pub record CloseReady (n dim : ℕ) (vectors : List ℕ) (p : Params) (width : ℕ) (wide : List ℕ) (size room : ℕ) : Type 0 where
-  pub given : Given n dim vectors p width
-  pub rows : Ruled n width wide
-  pub table : size ≡ n * p .degree
-  pub factors : 750 ≤ room
+pub record CloseReady (g : Given) (wide : List ℕ) (size room : ℕ) : Type 0 where
+  pub limits : Limits g
+  pub rows : Ruled (g .n) (g .width) wide
+  pub table : size ≡ g .n * g .params .degree
+  pub factors : mostFactors ≤ room

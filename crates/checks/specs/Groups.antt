@@ -6,13 +6,12 @@ use Prim.Native.Nat.{ℕ, zero, suc, _+_, _-_, _*_, _/_, _%_, _≤_, _<_}
 use native.Mathlib.Numerals.{add-one}
 use native.Mathlib.Nat.{mul-zero, div-add-mod', mul-mod-left, mul-div-cancel}
 use native.Mathlib.Omega.{arith}
-use borrow.Author.Tests.{lt-ltb, le-ltb, eq-eqb, ne-eqb}
+use borrow.Author.Tests.{lt-ltb, le-ltb, eq-eqb, ne-eqb, not-true, not-false}
 use lib.Dec.{ltb, eqb}
 use lib.ListN.{length, getD, take, drop, drop-of-length-le}
 use lib.Seq.{drop-cons, drop-drop}
 use Rattle.definition.specs.Lists.{each, isIn, distinct, groups}
 use Rattle.definition.specs.Refusals.{badExtra, goodGroup, badSeeds}
-use Rattle.checks.specs.Bools.{not-true, not-false}
 use Rattle.checks.specs.Lent.{part-is}
 
 -- ---- one group, from seed i on

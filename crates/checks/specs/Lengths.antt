@@ -2,12 +2,10 @@
 use mathlib.Core.Path.{_≡_, refl}
 use mathlib.Core.Bool.{Bool, not, _||_}
 use mathlib.Core.List.{List}
-use Prim.Native.Nat.{ℕ, _*_, _≤_}
-use native.Mathlib.Omega.{arith}
+use Prim.Native.Nat.{ℕ, _*_}
 use lib.Dec.{ltb, eqb}
 use lib.Ieee.{Float}
 use lib.ListN.{length}
-use Rattle.definition.specs.Slack.{slack}
 use Rattle.definition.specs.Refusals.{badLength, short, buildWords, buildFloats, searchWords, searchFloats, mostAnswers}
 
 unfoldable pub wrongLength : ℕ → ℕ → ℕ → Bool
@@ -18,7 +16,8 @@ buildShort n words floats = ltb words (buildWords n) || ltb floats (buildFloats 
 
 unfoldable pub searchShortBy : ℕ → ℕ → ℕ → ℕ → ℕ → ℕ → ℕ → ℕ → Bool
 searchShortBy n beam k words floats ids dists run =
-    (ltb words (searchWords n) || (ltb floats (searchFloats n) || (ltb ids (mostAnswers beam k) || ltb dists (mostAnswers beam k)))) || ltb run (mostAnswers beam k)
+    let most = mostAnswers beam k in
+    (ltb words (searchWords n) || (ltb floats (searchFloats n) || (ltb ids most || ltb dists most))) || ltb run most
 
 pub length-is : (n width : ℕ) (table : List ℕ) (size : ℕ) → length table ≡ size → wrongLength n width size ≡ badLength n width table
 unfolding wrongLength badLength
@@ -29,7 +28,3 @@ pub room-is : (n : ℕ) (ws : List ℕ) (fs : List Float) (words floats : ℕ) �
     → (short (buildWords n) ws || short (buildFloats n) fs) ≡ buildShort n words floats
 unfolding short buildShort
 room-is n ws fs words floats p q = rw (p, q) refl
-
-pub slack-few : (degree : ℕ) → degree ≤ 64 → slack degree ≤ 128
-unfolding slack
-slack-few degree h = omega arith

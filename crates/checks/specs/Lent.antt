@@ -9,9 +9,6 @@ use lib.Seq.{take-all}
 pub part-is : (width a : ℕ) (l : List ℕ) → take (a + width - a) (drop a l) ≡ take width (drop a l)
 part-is width a l = let e : a + width - a ≡ width = omega arith in rw e refl
 
--- the rest of a list, and its front, as they are lent
+-- the rest of a list, as it is lent
 pub rest-is : (k : ℕ) (l : List ℕ) → k ≤ length l → take (length l - k) (drop k l) ≡ drop k l
 rest-is k l h = take-all (length l - k) (drop k l) (let e = length-drop k l in omega arith)
-
-pub front-is : (k : ℕ) (l : List ℕ) → take (k - 0) l ≡ take k l
-front-is k l = let e : k - 0 ≡ k = omega arith in rw e refl

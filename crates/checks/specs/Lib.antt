@@ -3,11 +3,9 @@ pub mod Bools
 pub mod Lengths
 pub mod Lent
 pub mod Good
-pub mod Looked
 pub mod Foreign
 pub mod Searched
 pub mod Below
 pub mod Front
 pub mod Rows
 pub mod Groups
-pub mod Numbers

@@ -5,6 +5,7 @@ use mathlib.Core.List.{List, [], _∷_}
 use Prim.Native.Nat.{ℕ, suc, _+_, _-_, _*_, _≤_, _<_}
 use native.Mathlib.Numerals.{add-one}
 use native.Mathlib.Omega.{arith}
+use borrow.Author.Tests.{not-true, not-false}
 use lib.Dec.{ltb, eqb}
 use lib.ListN.{length, take, drop, replicate}
 use lib.Seq.{take-at}
@@ -12,11 +13,10 @@ use Rattle.definition.specs.Lists.{each, keep, run, upto, isIn, distinct}
 use Rattle.definition.specs.Tables.{pad, row, ids, onlyPad, idsFirst, buildRow, buildRule, searchRule}
 use Rattle.definition.specs.Refusals.{badLength, badTable}
 use Rattle.laws.specs.Tables.{row-fits, ids-split}
-use Rattle.laws.specs.Parts.{part-length}
+use Rattle.laws.specs.Parts.{part-length, part-front}
 use Rattle.laws.specs.Truth.{and-both}
-use Rattle.checks.specs.Bools.{not-true, not-false}
 use Rattle.checks.specs.Lengths.{wrongLength}
-use Rattle.checks.specs.Lent.{part-is, rest-is, front-is as front-of}
+use Rattle.checks.specs.Lent.{part-is, rest-is}
 use Rattle.checks.specs.Below.{allBelow}
 use Rattle.checks.specs.Front.{entries, front-is, entries-ids}
 use Rattle.checks_repeats.specs.Apart.{apart, apart-one}
@@ -88,7 +88,7 @@ module _ (n own : ℕ) (words : List ℕ) where
     row-end e r p =
         let s = and-both (idsFirst words) _ (sym rest-front ∙ e) in
         let all : count ≡ length (ids words) = size ∙ ap length (entries-ids n few words (s .1)) in
-        let front : take (count - 0) words ≡ take (length (ids words)) words = front-of count words ∙ ap (λ (k : ℕ). take k words) all in
+        let front : take (count - 0) words ≡ take (length (ids words)) words = part-front count words ∙ ap (λ (k : ℕ). take k words) all in
         p ∙ ap not (ap (λ (l : List ℕ). apart (own ∷ []) l) front ∙ sym (row-repeats (s .1) (s .0)))
 
 -- ---- the rows from row i on

@@ -1,5 +1,6 @@
 // Tests of numbers and lengths: no loop.
 
+use table::slack;
 ghost use mathlib.Core.Path.{_≡_};
 ghost use Prim.Native.Nat.{_≤_};
 ghost use Rattle.definition.specs.Refusals.{badDim, badCount, badVectors, badDegree, badBeam, badAlpha, badStart, badExtra};
@@ -86,14 +87,6 @@ pub fn bad_length(n: usize, width: usize, length: usize) -> bool
 {
     let all = n * width;
     length != all
-}
-
-// How many words a row of a wide table has.
-pub fn slack(degree: usize) -> usize
-    requires { ⌜ degree ≤ 64 ⌝ }
-    ensures { λ r. ⌜ r ≡ slack degree ⌝ }
-{
-    (13 * degree + 9) / 10
 }
 
 // 8, the length alone, of a wide table

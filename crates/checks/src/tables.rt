@@ -1,13 +1,14 @@
 // 8: the search rule and the build rule.
 
 use super::limits::bad_length;
-use super::limits::slack;
 use checks_repeats::row_repeats;
+use table::only_padding;
+use table::slack;
 ghost use mathlib.Core.Path.{_≡_};
 ghost use mathlib.Core.Bool.{not};
 ghost use Prim.Native.Nat.{_*_, _≤_};
 ghost use lib.ListN.{length};
-ghost use Rattle.definition.specs.Tables.{onlyPad, searchRule, buildRow, buildRule};
+ghost use Rattle.definition.specs.Tables.{searchRule, buildRow, buildRule};
 ghost use Rattle.definition.specs.Refusals.{badSearched, badTable};
 ghost use Rattle.definition.specs.Slack.{slack};
 ghost use Rattle.checks.specs.Front.{entries};
@@ -58,21 +59,6 @@ pub fn count_entries(n: usize, words: &[u32]) -> usize
         i += 1;
     }
     count as usize
-}
-
-// Whether every word is padding.
-pub fn only_padding(words: &[u32]) -> bool
-    ensures { λ r. ⌜ r ≡ onlyPad (now (words .entry)) ⌝ }
-{
-    let mut found = false;
-    let mut i = 0;
-    while i < words.len() {
-        if words[i] != 0xFFFFFFFF {
-            found = true;
-        }
-        i += 1;
-    }
-    !found
 }
 
 // Whether the row of `own` breaks the build rule. Where only padding stands beyond as many words as there are ids below n, those words are the ids.

@@ -1,7 +1,6 @@
--- The numbers of the public calls, as lists of tests, and what a call has that is accepted.
+-- The numbers of the public calls, as lists of tests. (What a call has that is accepted is said in crate accepted.)
 pub mod Tests
 pub mod Shared
-pub mod Fit
 pub mod SearchNumber
 pub mod BuildNumbers
 pub mod MedoidNumber

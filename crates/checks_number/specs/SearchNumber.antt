@@ -1,22 +1,18 @@
--- The number of a search, and what a search has that is accepted.
-use mathlib.Core.Path.{_≡_, refl, sym, ap, _∙_}
+-- The number of a search.
+use mathlib.Core.Path.{_≡_, refl, ap, _∙_}
 use mathlib.Core.Bool.{Bool, false, not, _||_, or-false}
 use mathlib.Core.List.{List, [], _∷_, _++_}
-use Prim.Native.Nat.{ℕ, _+_, _*_, _≤_, _<_, min, max}
+use Prim.Native.Nat.{ℕ, min, max}
 use native.Mathlib.Omega.{arith}
-use borrow.Author.Tests.{le-ltb, eqb-true}
+use borrow.Author.Tests.{le-ltb}
 use lib.Dec.{ltb, eqb}
 use lib.Ieee.{Float}
 use lib.ListN.{length}
 use Rattle.definition.specs.declared.Candidate.{Candidate}
 use Rattle.definition.specs.Refusals.{SearchCall, badDegree, badBeam, badStart, badSearched, short, mostAnswers, searchShort}
 use Rattle.definition.specs.Refusals.{searchNumberAt, searchNumber, recordsNumber}
-use Rattle.laws.specs.Words.{Searchable}
-use Rattle.checks.specs.Bools.{not-false}
 use Rattle.checks.specs.Lengths.{searchShortBy}
-use Rattle.checks.specs.Good.{dim-good, vectors-good, degree-good, beam-good, start-good, search-room}
-use Rattle.checks.specs.Searched.{searched-good}
-use Rattle.checks_number.specs.Tests.{Tests, numberOf, holdsAt, numbered, cleared}
+use Rattle.checks_number.specs.Tests.{Tests, numberOf}
 use Rattle.checks_number.specs.Shared.{entryTests}
 
 abbrev pub callOf : ℕ → ℕ → List ℕ → ℕ → ℕ → ℕ → ℕ → List ℕ → List ℕ → List ℕ → List Float → List ℕ → List Float → SearchCall
@@ -88,62 +84,3 @@ module _ (n dim : ℕ) (vectors : List ℕ) (degree beam k start : ℕ)
   pub with-records : (records : List Candidate) → Numbered (length records) → r ≡ recordsNumber call records
   unfolding recordsNumber short
   with-records records m = m .is words floats ids dists refl refl refl refl
-
--- ---- a search that is accepted
-pub record Accepted (c : SearchCall) : Type 0 where
-  pub dim-some : 1 ≤ c .dim
-  pub dim-few : c .dim ≤ 256
-  pub nodes-some : 1 ≤ c .n
-  pub nodes : c .n ≤ 65536
-  pub vectors-are : length (c .vectors) ≡ c .n * c .dim
-  pub degree-some : 1 ≤ c .degree
-  pub degree-few : c .degree ≤ 64
-  pub beam-few : c .beam ≤ 256
-  pub start-in : c .start < c .n
-  pub table-is : length (c .table) ≡ c .n * c .degree
-  pub rows : Searchable (c .n) (c .table)
-  pub word-room : 2 * c .n + 256 ≤ length (c .words)
-  pub float-room : c .n + 256 ≤ length (c .floats)
-  pub id-room : mostAnswers (c .beam) (c .k) ≤ length (c .ids)
-  pub dist-room : mostAnswers (c .beam) (c .k) ≤ length (c .dists)
-  pub query-is : length (c .query) ≡ c .dim
-
-pub accepted-at : (c : SearchCall) (run : ℕ) → searchNumberAt (searchShort c || ltb run (mostAnswers (c .beam) (c .k))) c ≡ 0
-    → Accepted c × (mostAnswers (c .beam) (c .k) ≤ run)
-unfolding searchNumberAt holdsAt numbered
-accepted-at c run z =
-    let lent : SearchNumbered (c .n) (c .dim) (c .vectors) (c .degree) (c .beam) (c .k) (c .start) (c .table) (c .query)
-    (length (c .words)) (length (c .floats)) (length (c .ids)) (length (c .dists)) run _ = search-numbered refl in
-    let no = cleared _ refl (lent .is (c .words) (c .floats) (c .ids) (c .dists) refl refl refl refl ∙ z) in
-    let dim = dim-good (c .dim) (no 0) in
-    let vectors = vectors-good (c .n) (c .dim) (c .vectors) (no 1) in
-    let degree = degree-good (c .degree) (no 2) in
-    let table = searched-good (c .n) (c .degree) (c .table) (no 5) in
-    let room = search-room (c .n) (c .beam) (c .k) (length (c .words)) (length (c .floats)) (length (c .ids)) (length (c .dists)) run (no 6) in (
-      record {
-        dim-some = dim .0;
-        dim-few = dim .1;
-        nodes-some = vectors .0;
-        nodes = vectors .1;
-        vectors-are = vectors .2;
-        degree-some = degree .0;
-        degree-few = degree .1;
-        beam-few = beam-good (c .beam) (no 3);
-        start-in = start-good (c .n) (c .start) (no 4);
-        table-is = table .0;
-        rows = table .1;
-        word-room = room .word-room;
-        float-room = room .float-room;
-        id-room = room .id-room;
-        dist-room = room .dist-room;
-        query-is = eqb-true (length (c .query)) (c .dim) (not-false _ (no 7));
-      },
-      room .run-room,
-    )
-
-pub accepted : (c : SearchCall) → searchNumber c ≡ 0 → Accepted c
-accepted c z = accepted-at c (c .k) (plain-at c ∙ z) .0
-
-pub records-accepted : (c : SearchCall) (records : List Candidate) → recordsNumber c records ≡ 0 → Accepted c × (mostAnswers (c .beam) (c .k) ≤ length records)
-unfolding recordsNumber short
-records-accepted c records z = accepted-at c (length records) z

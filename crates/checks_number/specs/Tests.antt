@@ -1,14 +1,15 @@
 -- A number as a list of tests with their numbers: that of the first test that holds, 0 where none holds.
-use mathlib.Core.Path.{_≡_, refl, sym, _∙_}
+use mathlib.Core.Path.{_≡_, refl, sym, _∙_, subst}
 use mathlib.Core.Bool.{Bool, true, false, _&&_, false≢true}
 use mathlib.Core.List.{List, [], _∷_, _++_}
-use Prim.Native.Nat.{ℕ, zero, suc, _<_}
+use Prim.Native.Nat.{ℕ, zero, suc, _-_}
+use native.Mathlib.Omega.{arith}
 use borrow.Author.Tests.{ltb-true}
 use lib.Dec.{ltb}
 use lib.ListN.{length, take}
 use Rattle.definition.specs.Refusals.{_when_else_}
 use Rattle.laws.specs.Truth.{and-both, decide}
-use Rattle.checks.specs.Numbers.{past, stop, none}
+use Rattle.accepted.specs.Chain.{past, stop, passed}
 
 abbrev pub Tests : Type 0
 Tests = List (ℕ × Bool)
@@ -77,7 +78,9 @@ unfolding numbered numberOf holdsAt
 cleared [] p e i = refl
 cleared (t ∷ ts) p e i =
     let b = and-both (ltb 0 (t .0)) (numbered ts) p in
-    let s = none (t .0) (t .1) (numberOf ts) (ltb-true 0 (t .0) (b .0)) e in
+    let some = ltb-true 0 (t .0) (b .0) in
+    let k : t .0 ≡ suc (t .0 - 1) = omega arith in
+    let s = passed (t .0 - 1) (t .1) (numberOf ts) (subst (λ (k : ℕ). (k when t .1 else numberOf ts) ≡ 0) k e) in
     at (s .0) (λ j. cleared ts (b .1) (s .1) j) i
   where
     at : t .1 ≡ false → ((j : ℕ) → holdsAt ts j ≡ false) → (i : ℕ) → holdsAt (t ∷ ts) i ≡ false

@@ -65,11 +65,11 @@ apart-one x ids =
     apart-is (x ∷ []) ids
     ∙ ap (λ (t : Bool). distinct ids && t) (clear-more x [] ids ∙ ap (λ (t : Bool). not (isIn x ids) && t) (clear-none ids) ∙ and-true (not (isIn x ids)))
 
--- the ids from i on: the id at i, and those after it
+-- the ids from i on: x, which stands at i, and those after it
 module _ (seen ids : List ℕ) (i : ℕ) where
-  pub apart-at : i < length ids → apart seen (drop i ids) ≡ (not (isIn (getD ids i 0) seen) && apart (getD ids i 0 ∷ seen) (drop (i + 1) ids))
+  pub apart-step : i < length ids → (x : ℕ) → x ≡ getD ids i 0 → apart seen (drop i ids) ≡ (not (isIn x seen) && apart (x ∷ seen) (drop (i + 1) ids))
   unfolding apart
-  apart-at h = rw (add-one i, drop-cons ids i 0 h) refl
+  apart-step h x e = rw (add-one i, drop-cons ids i 0 h, e) refl
 
   pub apart-end : length ids ≤ i → apart seen (drop i ids) ≡ true
   unfolding apart

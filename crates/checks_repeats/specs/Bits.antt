@@ -1,6 +1,6 @@
 -- A set of numbers below 65,536 as bits: x has bit x / 1024 of word x % 1024.
 use mathlib.Core.Path.{_≡_, refl, sym, ap, _∙_}
-use mathlib.Core.Bool.{Bool, true, false, not, _||_, _&&_}
+use mathlib.Core.Bool.{Bool, true, false, not, _||_}
 use mathlib.Core.List.{List, [], _∷_}
 use Prim.Native.Nat.{ℕ, zero, suc, _+_, _-_, _*_, _/_, _%_, _^_, _≤_, _<_}
 use native.Mathlib.Nat.{mod-lt, one-mul, div-self, div-eq-of-lt, zero-div, mul-mod-left, pow-suc, div-add-mod'}
@@ -12,7 +12,7 @@ use lib.ListN.{length, getD, set, drop, replicate, length-set, length-replicate}
 use lib.Pow.{pow-pos, pow-lt, pow-add, shl-exact, shl-shr}
 use lib.Seq.{getD-set-same, getD-set-other}
 use Rattle.definition.specs.Lists.{isIn, distinct}
-use Rattle.checks_repeats.specs.Apart.{apart, apart-none, apart-at, apart-end}
+use Rattle.checks_repeats.specs.Apart.{apart, apart-none, apart-step, apart-end}
 
 pub record Small (ids : List ℕ) : Type 0 where
   pub at : (i : ℕ) → getD ids i 0 < 65536
@@ -127,15 +127,12 @@ module _ (ids : List ℕ) (i : ℕ) (bits : List ℕ) (w : Passing ids i bits) w
   pass-end h = ap not (sym (apart-end (w .seen) ids i h) ∙ w .same)
 
   module _ (h : i < length ids) (x : ℕ) (x-is : x ≡ getD ids i 0) where
-    step : apart (w .seen) (drop i ids) ≡ (not (isIn x (w .seen)) && apart (x ∷ w .seen) (drop (i + 1) ids))
-    step = rw x-is (apart-at (w .seen) ids i h)
-
     -- its bit is set
     pub pass-again : getD bits (x % 1024) 0 / 2 ^ (x / 1024) % 2 ≡ 1 → true ≡ not (distinct ids)
     unfolding digit
     pass-again e =
         let known : isIn x (w .seen) ≡ true = sym (w .held .at x) ∙ eq-eqb _ 1 e in
-        let again : apart (w .seen) (drop i ids) ≡ false = step ∙ rw known refl in
+        let again : apart (w .seen) (drop i ids) ≡ false = apart-step (w .seen) ids i h x x-is ∙ rw known refl in
         ap not (sym again ∙ w .same)
 
     -- it is not
@@ -150,5 +147,5 @@ module _ (ids : List ℕ) (i : ℕ) (bits : List ℕ) (w : Passing ids i bits) w
           upto = omega arith;
           seen = x ∷ w .seen;
           held = rw bit (held-put bits (w .seen) x (w .held));
-          same = sym (step ∙ rw new refl) ∙ w .same;
+          same = sym (apart-step (w .seen) ids i h x x-is ∙ rw new refl) ∙ w .same;
         }

@@ -1,9 +1,9 @@
 -- A row's stamp at each id that was passed. Where an id does not find it, the id is new; where it does, only a look through the row tells.
 use mathlib.Core.Path.{_≡_, refl, sym, ap, _∙_}
-use mathlib.Core.Bool.{Bool, true, false, not, _||_, _&&_, or-true, or-false, or-assoc, or-comm, true≢false}
-use mathlib.Core.List.{List, [], _∷_, _++_}
+use mathlib.Core.Bool.{Bool, true, false, not, _||_, or-true, or-assoc, or-comm, true≢false}
+use mathlib.Core.List.{List, [], _∷_}
 use Prim.Native.Nat.{ℕ, _+_, _-_, _%_, _≤_, _<_}
-use native.Mathlib.Nat.{mod-lt}
+use native.Mathlib.Nat.{sub-zero, mod-lt}
 use native.Mathlib.Numerals.{add-one}
 use native.Mathlib.Omega.{arith}
 use borrow.Author.Tests.{eqb-true, eqb-false, eq-eqb, ne-eqb}
@@ -11,12 +11,8 @@ use lib.Dec.{eqb}
 use lib.ListN.{length, getD, set, take, drop, length-set}
 use lib.Seq.{getD-set-same, getD-set-other, take-suc}
 use Rattle.definition.specs.Lists.{isIn}
-use Rattle.checks_repeats.specs.Apart.{apart, apart-at, apart-end}
-
-isIn-append : (y : ℕ) (a b : List ℕ) → isIn y (a ++ b) ≡ (isIn y a || isIn y b)
-unfolding isIn
-isIn-append y [] b = refl
-isIn-append y (x ∷ a) b = ap (λ (t : Bool). eqb y x || t) (isIn-append y a b) ∙ sym (or-assoc (eqb y x) (isIn y a) (isIn y b))
+use Rattle.laws.specs.Members.{isIn-snoc}
+use Rattle.checks_repeats.specs.Apart.{apart, apart-step, apart-end}
 
 -- after i ids
 pub record Stamped (own stamp : ℕ) (ids : List ℕ) (i : ℕ) (marks : List ℕ) : Type 0 where
@@ -65,26 +61,17 @@ module _ (own stamp : ℕ) (ids : List ℕ) where
     stamp-end h = ap not (sym (apart-end (w .seen) ids i h) ∙ w .same)
 
     module _ (h : i < length ids) (x : ℕ) (x-is : x ≡ getD ids i 0) where
-      step : apart (w .seen) (drop i ids) ≡ (not (isIn x (w .seen)) && apart (x ∷ w .seen) (drop (i + 1) ids))
-      step = rw x-is (apart-at (w .seen) ids i h)
-
-      front : take (i - 0) ids ≡ take i ids
-      front = let z : i - 0 ≡ i = omega arith in rw z refl
-
       more : (y : ℕ) → isIn y (take (i + 1) ids) ≡ (isIn y (take i ids) || eqb y x)
-      unfolding isIn
-      more y =
-          ap (λ (k : ℕ). isIn y (take k ids)) (add-one i) ∙ ap (isIn y) (take-suc ids i 0 h)
-          ∙ isIn-append y (take i ids) (getD ids i 0 ∷ []) ∙ rw x-is (ap (λ (t : Bool). isIn y (take i ids) || t) (or-false (eqb y (getD ids i 0))))
+      more y = rw (add-one i, take-suc ids i 0 h, x-is) (isIn-snoc y (take i ids) (getD ids i 0))
 
       again : isIn x (w .seen) ≡ true → true ≡ not (apart (own ∷ []) ids)
-      again e = let a : apart (w .seen) (drop i ids) ≡ false = step ∙ rw e refl in ap not (sym a ∙ w .same)
+      again e = let a : apart (w .seen) (drop i ids) ≡ false = apart-step (w .seen) ids i h x x-is ∙ rw e refl in ap not (sym a ∙ w .same)
 
       pub stamp-own : x ≡ own → true ≡ not (apart (own ∷ []) ids)
       stamp-own e = again (w .known x ∙ rw (eq-eqb x own e) refl)
 
       pub stamp-among : isIn x (take (i - 0) ids) ≡ true → true ≡ not (apart (own ∷ []) ids)
-      stamp-among e = again (w .known x ∙ rw (← front, e) (or-true (eqb x own)))
+      stamp-among e = again (w .known x ∙ rw (← sub-zero i, e) (or-true (eqb x own)))
 
       -- the id is new: by its mark, or by the look through the row
       on : isIn x (w .seen) ≡ false → Stamped own stamp ids (i + 1) (set marks (x % 16384) stamp)
@@ -93,7 +80,7 @@ module _ (own stamp : ℕ) (ids : List ℕ) where
         upto = omega arith;
         size = length-set marks (x % 16384) stamp ∙ w .size;
         seen = x ∷ w .seen;
-        same = sym (step ∙ rw e refl) ∙ w .same;
+        same = sym (apart-step (w .seen) ids i h x x-is ∙ rw e refl) ∙ w .same;
         known = λ y.
             ap (λ (t : Bool). eqb y x || t) (w .known y) ∙ or-comm (eqb y x) (eqb y own || isIn y (take i ids))
             ∙ or-assoc (eqb y own) (isIn y (take i ids)) (eqb y x) ∙ ap (λ (t : Bool). eqb y own || t) (sym (more y));
@@ -108,4 +95,4 @@ module _ (own stamp : ℕ) (ids : List ℕ) where
           go false e = refl
 
       pub stamp-looked : (x ≡ own → ⊥) → isIn x (take (i - 0) ids) ≡ false → Stamped own stamp ids (i + 1) (set marks (x % 16384) stamp)
-      stamp-looked ne e = on (w .known x ∙ rw (ne-eqb x own ne) (rw (← front) e))
+      stamp-looked ne e = on (w .known x ∙ rw (ne-eqb x own ne) (rw (← sub-zero i) e))

@@ -74,7 +74,7 @@ round pair target current (suc room) (c ∷ cs) (f ∷ fs) =
     let keep = takeOne (c .id) (round pair target current room cs (shadeAll pair target (c .id) cs fs)) in
     cond (above f current) skip keep
 
--- The rounds, `fuel` at most. After a round: stop if current is at least target. For an alpha that is accepted there are at most 9, which `promises` proves.
+-- The rounds, `fuel` at most. After a round: stop if current is at least target. For an alpha that is accepted there are at most 9, which `theory` proves.
 unfoldable pub rounds : (ℕ → ℕ → ℕ) → Float → ℕ → Float → ℕ → List Item → List Float → List ℕ
 rounds pair target zero current room cs fs = []
 rounds pair target (suc fuel) current room cs fs =

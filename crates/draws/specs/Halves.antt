@@ -1,4 +1,4 @@
--- A product modulo 2^64 by halves of 32 bits, and the range of a draw.
+-- A product modulo 2^64 by halves of 32 bits, and the range of its upper half.
 use mathlib.Core.Path.{_≡_, sym, _∙_, ap}
 use Prim.Native.Nat.{ℕ, _+_, _*_, _/_, _%_, _^_, _<_}
 use native.Mathlib.Nat.{lt-of-le-of-lt, mul-le-mul-left, mul-lt-mul-of-pos-right, le-of-lt}
@@ -33,9 +33,3 @@ quotient-lt x h = omega arith
 
 pub add-mod : (p c : ℕ) → (p % N + c) % N ≡ (p + c) % N
 add-mod p c = omega arith
-
--- a draw below m is below m
-pub drawn-lt : (m q : ℕ) → 0 < m → q < B → q * m / B < m
-drawn-lt m q h k =
-    let p : q * m < B * m = mul-lt-mul-of-pos-right k h in
-    omega arith

@@ -9,7 +9,8 @@ use lib.Seq.{length-take-le, take-at, drop-at}
 use Rattle.definition.specs.Lists.{upto, over}
 use Rattle.definition.specs.Draws.{Drawn, advance, drawn, shuffled, exchanged, orderDrawn}
 use Rattle.draws.specs.Says.{Leaves}
-use Rattle.draws.specs.Places.{length-upto}
+use Rattle.laws.specs.Members.{length-upto}
+use Rattle.laws.specs.Parts.{part}
 
 -- ---- the exchanges: i places are still to be exchanged
 pub record Shuffling (o : List ℕ) (s₀ : ℕ) (out : List ℕ) (i s : ℕ) : Type 0 where
@@ -25,6 +26,7 @@ pub shuffle-turn : (o : List ℕ) (s₀ : ℕ) (out : List ℕ) (i s j s′ : �
 unfolding shuffled exchanged
 shuffle-turn o s₀ out i s j s′ h e e′ k =
     let w = shuffled (length o - 1) o s₀ in
+    let swapped : ℕ → ℕ → List ℕ = λ p d. set (set out p (getD out d 0)) d (getD out p 0) in
     let q : i ≡ suc (i - 1) = omega arith in
     let g : shuffled (suc (i - 1)) out s ≡ w = subst (λ (m : ℕ). shuffled m out s ≡ w) q (k .leads) in
     let below = k .inside in
@@ -32,11 +34,9 @@ shuffle-turn o s₀ out i s j s′ h e e′ k =
       size = length-set (set out i (getD out j 0)) j (getD out i 0) ∙ length-set out i (getD out j 0) ∙ k .size;
       inside = omega arith;
       leads =
-          ap (λ (d : ℕ). shuffled (i - 1) (set (set out i (getD out d 0)) d (getD out i 0)) s′) e
-          ∙ ap (λ (p : ℕ). shuffled (i - 1) (set (set out p (getD out (drawn (p + 1) s′) 0)) (drawn (p + 1) s′) (getD out p 0)) s′) q
-          ∙ ap
-          (λ (z : ℕ). shuffled (i - 1) (set (set out (suc (i - 1)) (getD out (drawn (suc (i - 1) + 1) z) 0)) (drawn (suc (i - 1) + 1) z) (getD out (suc (i - 1)) 0)) z)
-          e′
+          ap (λ (d : ℕ). shuffled (i - 1) (swapped i d) s′) e
+          ∙ ap (λ (p : ℕ). shuffled (i - 1) (swapped p (drawn (p + 1) s′)) s′) q
+          ∙ ap (λ (z : ℕ). shuffled (i - 1) (swapped (suc (i - 1)) (drawn (suc (i - 1) + 1) z)) z) e′
           ∙ g;
     }
 
@@ -48,9 +48,9 @@ shuffle-end o s₀ out i s h k =
     subst (λ (m : ℕ). shuffled m out s ≡ shuffled (length o - 1) o s₀) q (k .leads)
 
 -- both parts of an order: what the first left is shuffled by the second
-pub order-leaves : (n s s′ : ℕ) (o ys zs : List ℕ) → n ≤ length o → ys ≡ upto (length (take (n - 0) (drop 0 o)))
-    → length zs ≡ length (take (n - 0) (drop 0 (putMid 0 (n - 0) o ys)))
-    → record { words = zs; state = s′ } ≡ shuffled (length (take (n - 0) (drop 0 (putMid 0 (n - 0) o ys))) - 1) (take (n - 0) (drop 0 (putMid 0 (n - 0) o ys))) s
+pub order-leaves : (n s s′ : ℕ) (o ys zs : List ℕ) → n ≤ length o → ys ≡ upto (length (part 0 n o))
+    → length zs ≡ length (part 0 n (putMid 0 (n - 0) o ys))
+    → record { words = zs; state = s′ } ≡ shuffled (length (part 0 n (putMid 0 (n - 0) o ys)) - 1) (part 0 n (putMid 0 (n - 0) o ys)) s
     → Leaves (orderDrawn n s) o s′ (putMid 0 (n - 0) (putMid 0 (n - 0) o ys) zs)
 unfolding orderDrawn over
 order-leaves n s s′ o ys zs h up lz is =

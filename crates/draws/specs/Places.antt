@@ -1,12 +1,13 @@
 -- A slice in which each word is a function of its place, written from its front.
 use mathlib.Core.Path.{_≡_, refl, sym, ap, _∙_, subst}
-use mathlib.Core.List.{List, _∷_, map}
+use mathlib.Core.List.{List, _∷_, map, map-id}
 use Prim.Native.Nat.{ℕ, zero, suc, _+_, _-_, _≤_, _<_}
 use native.Mathlib.Nat.{sub-zero}
 use native.Mathlib.Numerals.{add-one}
 use native.Mathlib.Omega.{arith}
-use lib.ListN.{length, set, replicate, length-map}
+use lib.ListN.{length, set}
 use Rattle.definition.specs.Lists.{run, upto}
+use Rattle.laws.specs.Members.{length-upto}
 use Rattle.laws.specs.Writing.{Writing, start, put, all-ends}
 
 -- f of m places: those from j on are still to be written
@@ -23,8 +24,9 @@ module _ (f : ℕ → ℕ) (m : ℕ) (o : List ℕ) where
     unfolding run
     place-turn h l =
         let q : m - j ≡ suc (m - (j + 1)) = omega arith in
-        let k : Writing (map f (upto m)) o out j (f j ∷ map f (run (suc j) (m - (j + 1)))) = subst (λ (z : ℕ). Writing (map f (upto m)) o out j (map f (run j z))) q s in
-        put _ o out j (f j) _ l (subst (λ (z : ℕ). Writing (map f (upto m)) o out j (f j ∷ map f (run z (m - (j + 1))))) (sym (add-one j)) k)
+        let w = map f (upto m) in
+        let k : Writing w o out j (f j ∷ map f (run (suc j) (m - (j + 1)))) = subst (λ (z : ℕ). Writing w o out j (map f (run j z))) q s in
+        put _ o out j (f j) _ l (subst (λ (z : ℕ). Writing w o out j (f j ∷ map f (run z (m - (j + 1))))) (sym (add-one j)) k)
 
     pub place-end : m ≤ j → length out ≤ j → out ≡ map f (upto m)
     unfolding run
@@ -32,33 +34,6 @@ module _ (f : ℕ → ℕ) (m : ℕ) (o : List ℕ) where
         let q : m - j ≡ 0 = omega arith in
         all-ends _ o out j l (subst (λ (z : ℕ). Writing (map f (upto m)) o out j (map f (run j z))) q s)
 
-length-run : (i k : ℕ) → length (run i k) ≡ k
-unfolding run
-length-run i zero = refl
-length-run i (suc k) = ap suc (length-run (suc i) k)
-
-pub length-upto : (m : ℕ) → length (upto m) ≡ m
-unfolding upto
-length-upto m = length-run 0 m
-
-pub length-places : (f : ℕ → ℕ) (m : ℕ) → length (map f (upto m)) ≡ m
-length-places f m = length-map (upto m) f ∙ length-upto m
-
--- the place itself, and one word everywhere
-own-run : (i k : ℕ) → map (λ j. j) (run i k) ≡ run i k
-unfolding run
-own-run i zero = refl
-own-run i (suc k) = ap (λ (l : List ℕ). i ∷ l) (own-run (suc i) k)
-
+-- the place itself
 pub own-places : (m : ℕ) → map (λ j. j) (upto m) ≡ upto m
-unfolding upto
-own-places m = own-run 0 m
-
-same-run : (x i k : ℕ) → map (λ j. x) (run i k) ≡ replicate k x
-unfolding run
-same-run x i zero = refl
-same-run x i (suc k) = ap (λ (l : List ℕ). x ∷ l) (same-run x (suc i) k)
-
-pub same-places : (x m : ℕ) → map (λ j. x) (upto m) ≡ replicate m x
-unfolding upto
-same-places x m = same-run x 0 m
+own-places m = map-id (upto m)

@@ -30,7 +30,8 @@ free-mod : (n : ℕ) (t : List ℕ) (fuel r : ℕ) → firstFree n t fuel (r % n
 unfolding firstFree
 free-mod n t zero r = mod-mod r n
 free-mod n t (suc fuel) r =
-    let next : firstFree n t fuel (r % n + 1) ≡ firstFree n t fuel (r + 1) = sym (free-mod n t fuel (r % n + 1)) ∙ ap (firstFree n t fuel) (mod-add-mod r n 1) ∙ free-mod n t fuel (r + 1) in
+    let next : firstFree n t fuel (r % n + 1) ≡ firstFree n t fuel (r + 1) =
+    sym (free-mod n t fuel (r % n + 1)) ∙ ap (firstFree n t fuel) (mod-add-mod r n 1) ∙ free-mod n t fuel (r + 1) in
     rw (mod-mod r n, next) refl
 
 module _ (n : ℕ) (t : List ℕ) (left x w : ℕ) (below : x < n) (h : firstFree n t left x ≡ w) where
@@ -89,7 +90,8 @@ module _ (n start extra s₀ : ℕ) (o : List ℕ) where
     unfolding seedsFrom
     group-end h l =
         let q : extra - k ≡ 0 = omega arith in
-        let w : record { words = take k out; state = s } ≡ seedsFrom n start extra [] s₀ = sym (ap (λ (m : ℕ). seedsFrom n start m (take k out) s) q) ∙ g .leads in
+        let w : record { words = take k out; state = s } ≡ seedsFrom n start extra [] s₀ =
+        sym (ap (λ (m : ℕ). seedsFrom n start m (take k out) s) q) ∙ g .leads in
         let all = ends (take k out) o out k l (g .written) in
         rw (← w) (record { words-are = all; state-is = refl })
 

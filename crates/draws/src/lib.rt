@@ -67,7 +67,7 @@ pub fn rows_drawn(state: u64, n: usize, degree: usize, table: &mut [u32]) -> Ste
         return kept(state, 8);
     }
     if n == 1 {
-        rows::only_padding(table);
+        table::pad_from(table, 0);
         return filled(state);
     }
     let next = rows::fill_rows(state, n, degree, table);

@@ -4,27 +4,14 @@ use super::numbers::wrapped;
 use super::step::advance;
 use super::step::drawn;
 use laws::least;
+use table::pad_from;
 ghost use mathlib.Core.Path.{_≡_};
-ghost use mathlib.Core.List.{[]};
 ghost use Prim.Native.Nat.{_+_, _-_, _*_, _≤_, _<_, min};
 ghost use lib.ListN.{length};
 ghost use Rattle.definition.specs.Lists.{upto};
 ghost use Rattle.definition.specs.Tables.{padded};
 ghost use Rattle.definition.specs.Draws.{rowIds, rowsFrom};
 ghost use Rattle.draws.specs.Says.{Leaves};
-
-const PADDING: u32 = 4294967295;
-
-// Every word becomes padding.
-pub fn only_padding(words: &mut [u32])
-    ensures { λ _. ⌜ now (words .exit) ≡ padded (length (now (words .entry))) [] ⌝ }
-{
-    let mut j = 0;
-    while j < words.len() {
-        words[j] = PADDING;
-        j += 1;
-    }
-}
 
 // The ids of opening row i of n above 1 entries, from the draw r, as many as there is room for: `step` is (r + j) mod (n-1).
 pub fn write_ids(n: u32, i: u32, r: u32, ids: &mut [u32])
@@ -48,7 +35,7 @@ pub fn write_row(n: u32, i: u32, r: u32, row: &mut [u32])
     let width = row.len();
     let many = least(width, (n - 1) as usize);
     write_ids(n, i, r, &mut row[0..many]);
-    only_padding(&mut row[many..width]);
+    pad_from(row, many);
 }
 
 // The rows of a table of n above 1 entries, i rising: the state after them.

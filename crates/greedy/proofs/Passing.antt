@@ -7,10 +7,10 @@ use native.Mathlib.Omega.{arith}
 use lib.ListN.{length, getD, set, take, drop, length-map, length-set}
 use lib.Seq.{take-suc, drop-cons, set-at, getD-at, getD-take, length-take-le}
 use Rattle.definition.specs.Beam.{Item, item}
-use Rattle.beam.specs.ListLaws.{map-at}
+use Rattle.laws.specs.Backwards.{map-append}
+use Rattle.laws.specs.Mapped.{map-at}
 use Rattle.greedy.specs.Kept.{Kept, code, codes, opening, Closed}
 use Rattle.greedy.specs.Coding.{code-closed, length-codes}
-use Rattle.greedy.specs.Cases.{map-more}
 use Rattle.greedy.specs.Scratch.{Next}
 
 -- ---- the best that are walked
@@ -84,7 +84,7 @@ one-halved work₀ work w i room h s =
           ∙ ap (λ (z : List ℕ). set z i (getD work₀ i 0 / 2)) split
           ∙ set-at (halved (take i work₀)) (getD work₀ i 0) (drop (suc i) work₀) (getD work₀ i 0 / 2) i front
           ∙ sym (append-assoc (halved (take i work₀)) (getD work₀ i 0 / 2 ∷ []) (drop (suc i) work₀))
-          ∙ ap (λ (z : List ℕ). z ++ drop (suc i) work₀) (sym (map-more (λ (c : ℕ). c / 2) (take i work₀) (getD work₀ i 0 ∷ [])))
+          ∙ ap (λ (z : List ℕ). z ++ drop (suc i) work₀) (sym (map-append (λ (c : ℕ). c / 2) (take i work₀) (getD work₀ i 0 ∷ [])))
           ∙ ap (λ (z : List ℕ). halved z ++ drop (suc i) work₀) (sym (take-suc work₀ i 0 k))
           ∙ ap (λ (m : ℕ). halved (take m work₀) ++ drop m work₀) (sym (add-one i));
     }

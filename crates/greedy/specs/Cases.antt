@@ -10,12 +10,9 @@ use Rattle.definition.specs.Lists.{isIn}
 use Rattle.definition.specs.Tables.{pad}
 use Rattle.definition.specs.Beam.{Item, item, insert, insertCapped, best, beatsWorst}
 use Rattle.definition.specs.Greedy.{State, visitedIds, begin, admitted, meet, skipped, look, expand, popped, step, stops, filled, steps, greedy}
+use Rattle.laws.specs.Backwards.{map-append}
 use Rattle.marks.specs.Marked.{news}
 use Rattle.greedy.specs.Scratch.{meets}
-
-pub map-more : {A B : Type 0} (f : A → B) (a b : List A) → map f (a ++ b) ≡ map f a ++ map f b
-map-more f [] b = refl
-map-more {A} {B} f (x ∷ xs) b = ap (λ (z : List B). f x ∷ z) (map-more f xs b)
 
 -- ---- one entry that is met
 module _ (beam : ℕ) (x : Item) (st : State) where
@@ -66,19 +63,22 @@ measured-ids d (i ∷ is) = ap (λ (z : List ℕ). i ∷ z) (measured-ids d is)
 module _ (d : ℕ → ℕ) (beam : ℕ) where
   meet-ids : (st : State) (w : ℕ) → visitedIds (meet beam (item (d w) w) st) ≡ visitedIds st ++ (w ∷ [])
   unfolding visitedIds
-  meet-ids st w = ap (map (λ (c : Item). c .id)) (meet-visited beam (item (d w) w) st) ∙ map-more (λ (c : Item). c .id) (st .visited) (item (d w) w ∷ [])
+  meet-ids st w = ap (map (λ (c : Item). c .id)) (meet-visited beam (item (d w) w) st) ∙ map-append (λ (c : Item). c .id) (st .visited) (item (d w) w ∷ [])
 
   pub expand-meets : (row : List ℕ) (st : State) → expand d beam st row ≡ meets beam st (measured d (news (visitedIds st) row))
   unfolding expand meets news look skipped
   expand-meets [] st = refl
-  expand-meets (w ∷ ws) st = go (eqb w pad || isIn w (visitedIds st)) (expand-meets ws st) (expand-meets ws (meet beam (item (d w) w) st))
+  expand-meets (w ∷ ws) st = go (eqb w pad || isIn w (visitedIds st)) (expand-meets ws st) (expand-meets ws met)
     where
+      met : State
+      met = meet beam (item (d w) w) st
+
       go : (t : Bool) → expand d beam st ws ≡ meets beam st (measured d (news (visitedIds st) ws))
-          → expand d beam (meet beam (item (d w) w) st) ws ≡ meets beam (meet beam (item (d w) w) st) (measured d (news (visitedIds (meet beam (item (d w) w) st)) ws))
-          → expand d beam (cond t st (meet beam (item (d w) w) st)) ws
+          → expand d beam met ws ≡ meets beam met (measured d (news (visitedIds met) ws))
+          → expand d beam (cond t st met) ws
           ≡ meets beam st (measured d (cond t (news (visitedIds st) ws) (w ∷ news (visitedIds st ++ (w ∷ [])) ws)))
       go true old new = old
-      go false old new = new ∙ ap (λ (l : List ℕ). meets beam (meet beam (item (d w) w) st) (measured d (news l ws))) (meet-ids st w)
+      go false old new = new ∙ ap (λ (l : List ℕ). meets beam met (measured d (news l ws))) (meet-ids st w)
 
 -- ---- the steps
 pub steps-stop : (d : ℕ → ℕ) (rows : ℕ → List ℕ) (beam k : ℕ) (s : State) → stops beam s ≡ true → steps d rows beam k s ≡ s
@@ -86,7 +86,8 @@ unfolding steps
 steps-stop d rows beam zero s e = refl
 steps-stop d rows beam (suc k) s e = rw e refl
 
-pub steps-go : (d : ℕ → ℕ) (rows : ℕ → List ℕ) (beam k : ℕ) (s : State) → stops beam s ≡ false → steps d rows beam (suc k) s ≡ steps d rows beam k (step d rows beam s)
+pub steps-go : (d : ℕ → ℕ) (rows : ℕ → List ℕ) (beam k : ℕ) (s : State) → stops beam s ≡ false
+    → steps d rows beam (suc k) s ≡ steps d rows beam k (step d rows beam s)
 unfolding steps
 steps-go d rows beam k s e = rw e refl
 
@@ -98,7 +99,8 @@ pub stops-filled : (beam : ℕ) (s : State) → (length (s .frontier) ≡ 0 → 
 unfolding stops
 stops-filled beam s e = rw (ne-eqb (length (s .frontier)) 0 e) refl
 
-pub step-is : (d : ℕ → ℕ) (rows : ℕ → List ℕ) (beam : ℕ) (s : State) (id : ℕ) → id ≡ best (s .frontier) .id → step d rows beam s ≡ expand d beam (popped s) (rows id)
+pub step-is : (d : ℕ → ℕ) (rows : ℕ → List ℕ) (beam : ℕ) (s : State) (id : ℕ) → id ≡ best (s .frontier) .id
+    → step d rows beam s ≡ expand d beam (popped s) (rows id)
 unfolding step
 step-is d rows beam s id e = ap (λ (i : ℕ). expand d beam (popped s) (rows i)) (sym e)
 

@@ -13,7 +13,8 @@ use Rattle.definition.specs.Metric.{whole}
 use Rattle.definition.specs.Beam.{Item, nearer}
 use Rattle.laws.specs.Truth.{decide, is-false}
 use Rattle.laws.specs.Items.{nearer-is, not-nearer}
-use Rattle.beam.specs.Held.{All, Desc, Small}
+use Rattle.beam.specs.Held.{Desc, Small}
+use Rattle.laws.specs.All.{All}
 use Rattle.greedy.specs.Kept.{Kept, code, codes, items, opening, close, Closed}
 
 -- ---- one code

@@ -14,17 +14,13 @@ use Rattle.definition.specs.Beam.{Item, item, nobody, nearer, worse, insert, in
 use Rattle.laws.specs.Truth.{decide, either}
 use Rattle.laws.specs.Sorting.{behind-through}
 use Rattle.laws.specs.Items.{nearer-order, not-nearer, strictly-nearer}
-use Rattle.beam.specs.Held.{All, Desc}
-use Rattle.beam.specs.ListLaws.{map-at}
-use Rattle.beam.specs.Order.{all-weaker, all-insert, insert-behind, length-insert}
-use Rattle.beam.specs.Caps.{capped-room, capped-nearer}
+use Rattle.beam.specs.Held.{Desc}
+use Rattle.laws.specs.All.{All, all-append, all-weaker}
+use Rattle.laws.specs.Mapped.{map-at}
+use Rattle.laws.specs.Inserts.{insert-behind, length-insert, capped-room, capped-nearer}
+use Rattle.beam.specs.Order.{all-insert}
 use Rattle.greedy.specs.Kept.{Kept, code, codes, items, opens, opening, put, close, Closed, Inside, Beyond}
 use Rattle.greedy.specs.Coding.{shut, open-code, open-nearer, behind-shut, shut-behind, length-codes, length-items, all-close, desc-items}
-
--- ---- what holds of all items of a list
-all-append : (P : Item → Type 0) (l r : List Item) → All P l → All P r → All P (l ++ r)
-all-append P [] r a b = b
-all-append P (x ∷ xs) r a b = (a .0, all-append P xs r (a .1) b)
 
 -- ---- `insert` into the front, and past the front
 -- x is nearer than none of them
@@ -94,7 +90,8 @@ put-opens x (k ∷ ks) d = go (nearer x (k .of)) refl (put-opens x ks (d .1))
         all-weaker (λ (z : Item). nearer (k .of) z ≡ false) (λ (z : Item). nearer x z ≡ false) (λ z g. behind-through nearer-order x (k .of) z e g) (items ks)
         (d .0)
 
-    go : (t : Bool) → nearer x (k .of) ≡ t → opens (put x ks) ≡ insert x (opens ks) → opens (cond t (k ∷ put x ks) (opening x ∷ k ∷ ks)) ≡ insert x (opens (k ∷ ks))
+    go : (t : Bool) → nearer x (k .of) ≡ t → opens (put x ks) ≡ insert x (opens ks)
+        → opens (cond t (k ∷ put x ks) (opening x ∷ k ∷ ks)) ≡ insert x (opens (k ∷ ks))
     go true e r =
         opens-first k (put x ks) ∙ ap (λ (z : List Item). own k ++ z) r
         ∙ sym (behind-rest x (own k) (opens ks) (all-own (λ (z : Item). nearer x z ≡ true) k e)) ∙ ap (insert x) (sym (opens-first k ks))
@@ -171,18 +168,22 @@ module _ (beam n : ℕ) (x : Item) (k : Kept) (ks : List Kept) (rest frontier : 
       (all-insert (λ (z : Item). z .dist ≤ k .of .dist) x (items ks) (omega arith)
       (all-weaker (λ (z : Item). nearer (k .of) z ≡ false) (λ (z : Item). z .dist ≤ k .of .dist) (behind-dist (k .of)) (items ks) (desc-items (k ∷ ks) d .0))))
 
+  near : ltb (x .dist) (k .of .dist) ≡ true
+  near = lt-ltb (x .dist) (k .of .dist) h
+
   entered-full : Entered beam x (k ∷ ks) frontier n
   unfolding code
   entered-full =
       record {
         kept = put x ks;
         rest = rest ++ own k;
-        codes-are = capped-nearer beam (code (opening x)) (code k) (codes ks) (omega arith) (omega (arith, length-codes ks)) (lt-ltb (x .dist) (k .of .dist) h) ∙ put-codes x ks;
-        items-are = capped-nearer beam x (k .of) (items ks) (omega arith) (omega (arith, length-items ks)) (lt-ltb (x .dist) (k .of .dist) h) ∙ sym (put-items x ks);
+        codes-are = capped-nearer beam (code (opening x)) (code k) (codes ks) (omega arith) (omega (arith, length-codes ks)) near ∙ put-codes x ks;
+        items-are = capped-nearer beam x (k .of) (items ks) (omega arith) (omega (arith, length-items ks)) near ∙ sym (put-items x ks);
         frontier-is =
             ap (insert x) (parts ∙ ap (λ (l : List Item). rest ++ l) (opens-first k ks) ∙ sym (append-assoc rest (own k) (opens ks)))
             ∙ behind-rest x (rest ++ own k) (opens ks)
-            (all-weaker (λ (r : Item). k .of .dist ≤ r .dist) (λ (r : Item). nearer x r ≡ true) (λ r g. strictly-nearer x r (omega arith)) (rest ++ own k) farther)
+            (all-weaker (λ (r : Item). k .of .dist ≤ r .dist) (λ (r : Item). nearer x r ≡ true) (λ r g. strictly-nearer x r (omega arith)) (rest ++ own k)
+            farther)
             ∙ ap (λ (l : List Item). (rest ++ own k) ++ l) (sym (put-opens x ks (desc-items (k ∷ ks) d .1)));
         beyond =
             all-weaker (λ (r : Item). k .of .dist ≤ r .dist) (Beyond beam (items (put x ks)))

@@ -1,7 +1,5 @@
-// Part 4. The greedy walk from a start over the rows of a flat table of any width; one walk serves search and build.
-//
-//     words:   marks 0 .. n | visited ids n .. 2n | work 2n .. 2n + 256
-//     floats:  visited 0 .. n | work n .. n + 256
+// Part 4. The greedy walk from a start over the rows of a flat table of any width; one walk serves search and build. Crate scratch says where its regions lie:
+// marks, the ids of the visited and work in the words, the distances of the visited and of work in the floats.
 //
 // Work and frontier are one beam. What the frontier has and work has not was cut from a full work: it is no nearer than the worst, so the walk ends before
 // it is reached. So work alone is kept, each id doubled, and one more while its row is not yet walked: that order is the order of the ids.
@@ -13,10 +11,13 @@ ghost use Prim.Native.Nat.{ℕ, _+_, _-_, _*_, _/_, _≤_, _<_};
 ghost use lib.ListN.{length, take, drop, getD, set};
 ghost use Rattle.definition.specs.Metric.{fromQuery};
 ghost use Rattle.definition.specs.Tables.{row};
-ghost use Rattle.definition.specs.Greedy.{expand, steps, greedy};
+ghost use Rattle.definition.specs.Greedy.{expand, steps};
 ghost use Rattle.laws.specs.Parts.{part};
 ghost use Rattle.laws.specs.Words.{Searchable};
-ghost use Rattle.greedy.specs.Scratch.{admitsF, haltsF, Measures, Ready, Live, Pushed, Met, Moves, Next, Arrived, Reaches, Empty, Collected, Room, Walks};
+ghost use Rattle.scratch.specs.Lent.{lent};
+ghost use Rattle.scratch.specs.Layout.{visitedAt};
+ghost use Rattle.greedy.specs.Scratch.{Measures, Ground, walkOf, standing, Space, Ready, Live, Empty, Room, admitsF, haltsF};
+ghost use Rattle.greedy.specs.Scratch.{entry, Pushed, Met, Moves, Next, Arrived, Reaches, Collected, Walks};
 
 // What a walk goes by: n entries of dim bytes, and rows of width words.
 pub struct Plan {
@@ -35,28 +36,21 @@ pub struct Counts {
 }
 
 // An item into work, its row not yet walked.
-fn push(
-    words: &mut [u32],
-    floats: &mut [f32],
-    n: usize,
-    beam: usize,
-    w: usize,
-    id: u32,
-    dist: f32,
-) -> Placed
-    requires { ⌜ (n ≤ 65536) × (2 * n + 256 ≤ length (now words)) × (n + 256 ≤ length (now floats)) ⌝ }
-    requires { ⌜ (w ≤ beam) × (beam ≤ 256) × (id < n) ⌝ }
-    ensures { λ r. ⌜ Pushed n beam (now (words .entry)) (now (floats .entry)) (now (words .exit)) (now (floats .exit)) w id dist (r .len) (r .near) ⌝ }
+fn push(words: &mut [u32], floats: &mut [f32], p: Plan, w: usize, id: u32, dist: f32) -> Placed
+    requires { ⌜ Space p (lent (now words) (now floats)) ⌝ }
+    requires { ⌜ (w ≤ p .beam) × (id < p .n) ⌝ }
+    ensures { λ r. ⌜ Pushed p (lent (now (words .entry)) (now (floats .entry))) (lent (now (words .exit)) (now (floats .exit))) w (entry id dist) r ⌝ }
 {
-    let at = 2 * n;
-    let end = at + 256;
-    let fend = n + 256;
+    let n = p.n;
+    let at = scratch::work_at(n);
+    let end = scratch::work_end(n);
+    let fend = scratch::work_dists_end(n);
     let code = 2 * id + 1;
     beam::insert_capped(
         &mut words[at..end],
         &mut floats[n..fend],
         w,
-        beam,
+        p.beam,
         code,
         dist,
     )
@@ -77,56 +71,44 @@ fn admits(work: &[f32], len: usize, beam: usize, dist: f32) -> bool
 }
 
 // A newly visited entry, put into work where it is admitted.
-fn meet(
-    words: &mut [u32],
-    floats: &mut [f32],
-    n: usize,
-    beam: usize,
-    c: Counts,
-    id: u32,
-    dist: f32,
-) -> Counts
-    requires { ⌜ (n ≤ 65536) × (2 * n + 256 ≤ length (now words)) × (n + 256 ≤ length (now floats)) ⌝ }
-    requires { ⌜ (c .work ≤ beam) × (c .done ≤ c .work) × (beam ≤ 256) × (id < n) × (c .frontier < 65536) ⌝ }
-    ensures { λ r. ⌜ Met n beam (now (words .entry)) (now (floats .entry)) (c .frontier) (c .work) (c .done) (now (words .exit)) (now (floats .exit)) (r .frontier) (r .work) (r .done) (id ∷ []) (dist ∷ []) ⌝ }
-    ensures { λ r. ⌜ r .visited ≡ c .visited ⌝ }
+fn meet(words: &mut [u32], floats: &mut [f32], p: Plan, c: Counts, id: u32, dist: f32) -> Counts
+    requires { ⌜ Space p (lent (now words) (now floats)) ⌝ }
+    requires { ⌜ (c .work ≤ p .beam) × (c .done ≤ c .work) × (id < p .n) × (c .frontier < 65536) ⌝ }
+    ensures { λ r. ⌜ Met p (standing (now (words .entry)) (now (floats .entry)) c) (standing (now (words .exit)) (now (floats .exit)) r)
+        (id ∷ []) (dist ∷ []) ⌝ }
 {
-    let fend = n + 256;
-    if admits(&floats[n..fend], c.work, beam, dist) {
-        let p = push(words, floats, n, beam, c.work, id, dist);
+    let n = p.n;
+    let fend = scratch::work_dists_end(n);
+    if admits(&floats[n..fend], c.work, p.beam, dist) {
+        let r = push(words, floats, p, c.work, id, dist);
         return Counts {
             visited: c.visited,
             frontier: c.frontier + 1,
-            work: p.len,
-            done: laws::least(p.near, c.done),
+            work: r.len,
+            done: laws::least(r.near, c.done),
         };
     }
     c
 }
 
 // The entries visited from place `from` on, in order.
-fn meet_each(
-    words: &mut [u32],
-    floats: &mut [f32],
-    n: usize,
-    beam: usize,
-    from: usize,
-    c: Counts,
-) -> Counts
-    requires { ⌜ (n ≤ 65536) × (2 * n + 256 ≤ length (now words)) × (n + 256 ≤ length (now floats)) ⌝ }
-    requires { ⌜ (c .work ≤ beam) × (c .done ≤ c .work) × (beam ≤ 256) ⌝ }
-    requires { ⌜ (from ≤ c .visited) × (c .visited ≤ n) × (c .frontier ≤ from) ⌝ }
-    requires { ⌜ ((j : ℕ) → from ≤ j → j < c .visited → getD (now words) (n + j) 0 < n) ⌝ }
-    ensures { λ r. ⌜ Met n beam (now (words .entry)) (now (floats .entry)) (c .frontier) (c .work) (c .done) (now (words .exit)) (now (floats .exit)) (r .frontier) (r .work) (r .done) (part (n + from) (n + c .visited) (now (words .entry))) (part from (c .visited) (now (floats .entry))) ⌝ }
-    ensures { λ r. ⌜ r .visited ≡ c .visited ⌝ }
+fn meet_each(words: &mut [u32], floats: &mut [f32], p: Plan, from: usize, c: Counts) -> Counts
+    requires { ⌜ Space p (lent (now words) (now floats)) ⌝ }
+    requires { ⌜ (c .work ≤ p .beam) × (c .done ≤ c .work) ⌝ }
+    requires { ⌜ (from ≤ c .visited) × (c .visited ≤ p .n) × (c .frontier ≤ from) ⌝ }
+    requires { ⌜ ((j : ℕ) → from ≤ j → j < c .visited → getD (now words) (visitedAt (p .n) + j) 0 < p .n) ⌝ }
+    ensures { λ r. ⌜ Met p (standing (now (words .entry)) (now (floats .entry)) c) (standing (now (words .exit)) (now (floats .exit)) r)
+        (part (visitedAt (p .n) + from) (visitedAt (p .n) + c .visited) (now (words .entry))) (part from (c .visited) (now (floats .entry))) ⌝ }
 {
+    // the ids of the visited lie from n on
+    let n = p.n;
     let mut s = c;
     let mut j = from;
     while j < c.visited {
         let at = n + j;
         let id = words[at];
         let dist = floats[j];
-        s = meet(words, floats, n, beam, s, id, dist);
+        s = meet(words, floats, p, s, id, dist);
         j += 1;
     }
     s
@@ -143,11 +125,13 @@ fn expand(
     epoch: u32,
     c: Counts,
 ) -> Counts
-    requires { ⌜ Ready (p .n) epoch (p .beam) (now words) (now floats) (c .visited) (c .frontier) (c .work) (c .done) ⌝ }
+    requires { ⌜ Ready p epoch (standing (now words) (now floats) c) ⌝ }
     requires { ⌜ Measures (p .n) (p .dim) (now vectors) (now query) ⌝ }
     requires { ⌜ Searchable (p .n) (now ids) ⌝ }
-    ensures { λ r. ⌜ Moves (p .n) epoch (p .beam) (now (words .entry)) (now (floats .entry)) (c .visited) (c .frontier) (c .work) (c .done) (now (words .exit)) (now (floats .exit)) (r .visited) (r .frontier) (r .work) (r .done) (λ st. expand (fromQuery (p .dim) (now (vectors .entry)) (now (query .entry))) (p .beam) st (now (ids .entry))) ⌝ }
+    ensures { λ r. ⌜ Moves p epoch (standing (now (words .entry)) (now (floats .entry)) c) (standing (now (words .exit)) (now (floats .exit)) r)
+        (λ st. expand (fromQuery (p .dim) (now (vectors .entry)) (now (query .entry))) (p .beam) st (now (ids .entry))) ⌝ }
 {
+    // the ids of the visited lie from n on
     let n = p.n;
     let from = c.visited;
     let to = marks::gather(words, n, epoch, from, ids);
@@ -166,7 +150,7 @@ fn expand(
         work: c.work,
         done: c.done,
     };
-    meet_each(words, floats, n, p.beam, from, s)
+    meet_each(words, floats, p, from, s)
 }
 
 // How many of the best are walked, once those that were are passed: from `done` on, up to one that is not.
@@ -205,16 +189,16 @@ fn halts(work: &[f32], len: usize, beam: usize, done: usize) -> bool
     true
 }
 
-// Where the best that is not walked stands: it is walked from now on. Returns its id.
-fn pop(words: &mut [u32], n: usize, w: usize, done: usize) -> u32
-    requires { ⌜ (n ≤ 65536) × (2 * n + w ≤ length (now words)) × (done < w) × (w ≤ 256) ⌝ }
-    requires { ⌜ 0 < getD (now words) (2 * n + (w - 1 - done)) 0 ⌝ }
-    ensures { λ r. ⌜ (r ≡ getD (now (words .entry)) (2 * n + (w - 1 - done)) 0 / 2) × (now (words .exit) ≡ set (now (words .entry)) (2 * n + (w - 1 - done)) (getD (now (words .entry)) (2 * n + (w - 1 - done)) 0 - 1)) ⌝ }
+// The best that is not walked is walked from now on. Returns its id.
+fn pop(work: &mut [u32], w: usize, done: usize) -> u32
+    requires { ⌜ (w ≤ length (now work)) × (done < w) × (0 < getD (now work) (w - 1 - done) 0) ⌝ }
+    ensures { λ r. ⌜ (r ≡ getD (now (work .entry)) (w - 1 - done) 0 / 2)
+        × (now (work .exit) ≡ set (now (work .entry)) (w - 1 - done) (getD (now (work .entry)) (w - 1 - done) 0 - 1)) ⌝ }
 {
     let last = w - 1;
-    let at = 2 * n + (last - done);
-    let code = words[at];
-    words[at] = code - 1;
+    let at = last - done;
+    let code = work[at];
+    work[at] = code - 1;
     code / 2
 }
 
@@ -230,11 +214,11 @@ fn step(
     id: u32,
     c: Counts,
 ) -> Counts
-    requires { ⌜ Ready (p .n) epoch (p .beam) (now words) (now floats) (c .visited) (c .frontier) (c .work) (c .done) ⌝ }
-    requires { ⌜ Measures (p .n) (p .dim) (now vectors) (now query) ⌝ }
-    requires { ⌜ (length (now table) ≡ p .n * p .width) × (p .width ≤ 128) × (id < p .n) ⌝ }
-    requires { ⌜ Searchable (p .n) (now table) ⌝ }
-    ensures { λ r. ⌜ Moves (p .n) epoch (p .beam) (now (words .entry)) (now (floats .entry)) (c .visited) (c .frontier) (c .work) (c .done) (now (words .exit)) (now (floats .exit)) (r .visited) (r .frontier) (r .work) (r .done) (λ st. expand (fromQuery (p .dim) (now (vectors .entry)) (now (query .entry))) (p .beam) st (row (p .width) (now (table .entry)) id)) ⌝ }
+    requires { ⌜ Ready p epoch (standing (now words) (now floats) c) ⌝ }
+    requires { ⌜ Ground p (now vectors) (now query) (now table) ⌝ }
+    requires { ⌜ id < p .n ⌝ }
+    ensures { λ r. ⌜ Moves p epoch (standing (now (words .entry)) (now (floats .entry)) c) (standing (now (words .exit)) (now (floats .exit)) r)
+        (λ st. expand (fromQuery (p .dim) (now (vectors .entry)) (now (query .entry))) (p .beam) st (row (p .width) (now (table .entry)) id)) ⌝ }
 {
     let width = p.width;
     let from = id as usize * width;
@@ -253,24 +237,23 @@ fn walk(
     epoch: u32,
     c: Counts,
 ) -> Counts
-    requires { ⌜ Ready (p .n) epoch (p .beam) (now words) (now floats) (c .visited) (c .frontier) (c .work) (c .done) ⌝ }
-    requires { ⌜ Live (p .n) epoch (p .beam) (now words) (now floats) (c .visited) (c .frontier) (c .work) (c .done) ⌝ }
-    requires { ⌜ Measures (p .n) (p .dim) (now vectors) (now query) ⌝ }
-    requires { ⌜ (length (now table) ≡ p .n * p .width) × (p .width ≤ 128) ⌝ }
-    requires { ⌜ Searchable (p .n) (now table) ⌝ }
-    ensures { λ r. ⌜ Moves (p .n) epoch (p .beam) (now (words .entry)) (now (floats .entry)) (c .visited) (c .frontier) (c .work) (c .done) (now (words .exit)) (now (floats .exit)) (r .visited) (r .frontier) (r .work) (r .done) (λ st. steps (fromQuery (p .dim) (now (vectors .entry)) (now (query .entry))) (row (p .width) (now (table .entry))) (p .beam) (p .n) st) ⌝ }
+    requires { ⌜ Ready p epoch (standing (now words) (now floats) c) ⌝ }
+    requires { ⌜ Live p epoch (standing (now words) (now floats) c) ⌝ }
+    requires { ⌜ Ground p (now vectors) (now query) (now table) ⌝ }
+    ensures { λ r. ⌜ Moves p epoch (standing (now (words .entry)) (now (floats .entry)) c) (standing (now (words .exit)) (now (floats .exit)) r)
+        (λ st. steps (fromQuery (p .dim) (now (vectors .entry)) (now (query .entry))) (row (p .width) (now (table .entry))) (p .beam) (p .n) st) ⌝ }
 {
+    let n = p.n;
+    let at = scratch::work_at(n);
+    let end = scratch::work_end(n);
+    let fend = scratch::work_dists_end(n);
     let mut s = c;
     while 0 < s.frontier {
-        let n = p.n;
-        let wb = 2 * n;
-        let we = wb + 256;
-        let fe = n + 256;
-        let d = next(&words[wb..we], s.work, s.done);
-        if halts(&floats[n..fe], s.work, p.beam, d) {
+        let d = next(&words[at..end], s.work, s.done);
+        if halts(&floats[n..fend], s.work, p.beam, d) {
             break;
         }
-        let id = pop(words, n, s.work, d);
+        let id = pop(&mut words[at..end], s.work, d);
         let t = Counts {
             visited: s.visited,
             frontier: s.frontier - 1,
@@ -294,11 +277,11 @@ fn from_start(
     start: u32,
     dist: f32,
 ) -> Counts
-    requires { ⌜ Arrived (p .n) epoch (p .beam) (now words) (now floats) (fromQuery (p .dim) (now vectors) (now query)) start dist ⌝ }
-    requires { ⌜ Measures (p .n) (p .dim) (now vectors) (now query) ⌝ }
-    requires { ⌜ (length (now table) ≡ p .n * p .width) × (p .width ≤ 128) × (start < p .n) ⌝ }
-    requires { ⌜ Searchable (p .n) (now table) ⌝ }
-    ensures { λ r. ⌜ Reaches (p .n) epoch (p .beam) (now (words .entry)) (now (floats .entry)) (now (words .exit)) (now (floats .exit)) (r .visited) (r .frontier) (r .work) (r .done) (greedy (fromQuery (p .dim) (now (vectors .entry)) (now (query .entry))) (row (p .width) (now (table .entry))) (p .n) (p .beam) start) ⌝ }
+    requires { ⌜ Arrived p epoch (lent (now words) (now floats)) (fromQuery (p .dim) (now vectors) (now query)) (entry start dist) ⌝ }
+    requires { ⌜ Ground p (now vectors) (now query) (now table) ⌝ }
+    requires { ⌜ start < p .n ⌝ }
+    ensures { λ r. ⌜ Reaches p epoch (lent (now (words .entry)) (now (floats .entry))) (standing (now (words .exit)) (now (floats .exit)) r)
+        (walkOf p (fromQuery (p .dim) (now (vectors .entry)) (now (query .entry))) (now (table .entry)) start) ⌝ }
 {
     if p.beam == 0 {
         let c = Counts {
@@ -309,7 +292,7 @@ fn from_start(
         };
         return step(words, floats, vectors, query, table, p, epoch, start, c);
     }
-    let at = push(words, floats, p.n, p.beam, 0, start, dist);
+    let at = push(words, floats, p, 0, start, dist);
     let c = Counts {
         visited: 1,
         frontier: 1,
@@ -342,19 +325,19 @@ fn collect(
     epoch: u32,
     start: u32,
 ) -> Counts
-    requires { ⌜ Empty (p .n) epoch (p .beam) (now words) (now floats) ⌝ }
-    requires { ⌜ Measures (p .n) (p .dim) (now vectors) (now query) ⌝ }
-    requires { ⌜ (length (now table) ≡ p .n * p .width) × (p .width ≤ 128) × (start < p .n) ⌝ }
-    requires { ⌜ Searchable (p .n) (now table) ⌝ }
-    ensures { λ r. ⌜ Collected (p .n) epoch (p .beam) (now (words .entry)) (now (floats .entry)) (now (words .exit)) (now (floats .exit)) (r .visited) (r .work) (greedy (fromQuery (p .dim) (now (vectors .entry)) (now (query .entry))) (row (p .width) (now (table .entry))) (p .n) (p .beam) start) ⌝ }
+    requires { ⌜ Empty p epoch (lent (now words) (now floats)) ⌝ }
+    requires { ⌜ Ground p (now vectors) (now query) (now table) ⌝ }
+    requires { ⌜ start < p .n ⌝ }
+    ensures { λ r. ⌜ Collected p epoch (lent (now (words .entry)) (now (floats .entry))) (standing (now (words .exit)) (now (floats .exit)) r)
+        (walkOf p (fromQuery (p .dim) (now (vectors .entry)) (now (query .entry))) (now (table .entry)) start) ⌝ }
 {
     let n = p.n;
     let dist = metric::from_query(p.dim, vectors, query, start as usize);
     marks::note(words, n, epoch, 0, start);
     floats[0] = dist;
     let s = from_start(words, floats, vectors, query, table, p, epoch, start, dist);
-    let at = 2 * n;
-    let end = at + 256;
+    let at = scratch::work_at(n);
+    let end = scratch::work_end(n);
     plain(&mut words[at..end], s.work);
     s
 }
@@ -377,11 +360,11 @@ pub fn greedy(
     epoch: u32,
     start: u32,
 ) -> Walked
-    requires { ⌜ Room (p .n) epoch (p .beam) (now words) (now floats) ⌝ }
-    requires { ⌜ Measures (p .n) (p .dim) (now vectors) (now query) ⌝ }
-    requires { ⌜ (length (now table) ≡ p .n * p .width) × (p .width ≤ 128) × (start < p .n) ⌝ }
-    requires { ⌜ Searchable (p .n) (now table) ⌝ }
-    ensures { λ r. ⌜ Walks (p .n) epoch (p .beam) (now (words .entry)) (now (floats .entry)) (now (words .exit)) (now (floats .exit)) (r .epoch) (r .visited) (r .work) (greedy (fromQuery (p .dim) (now (vectors .entry)) (now (query .entry))) (row (p .width) (now (table .entry))) (p .n) (p .beam) start) ⌝ }
+    requires { ⌜ Room p epoch (lent (now words) (now floats)) ⌝ }
+    requires { ⌜ Ground p (now vectors) (now query) (now table) ⌝ }
+    requires { ⌜ start < p .n ⌝ }
+    ensures { λ r. ⌜ Walks p epoch (lent (now (words .entry)) (now (floats .entry))) (lent (now (words .exit)) (now (floats .exit))) r
+        (walkOf p (fromQuery (p .dim) (now (vectors .entry)) (now (query .entry))) (now (table .entry)) start) ⌝ }
 {
     let e = marks::next_epoch(words, p.n, epoch);
     let c = collect(words, floats, vectors, query, table, p, e, start);

@@ -1,14 +1,14 @@
 -- A list from its end to its front, and a slice that is filled with it from the left.
 use mathlib.Core.Path.{_≡_, refl, sym, ap, _∙_}
 use mathlib.Core.Bool.{Bool, true, false}
-use mathlib.Core.List.{List, [], _∷_, _++_, map, append-assoc}
+use mathlib.Core.List.{List, [], _∷_, _++_, map}
 use Prim.Native.Nat.{ℕ, zero, suc, _+_, _-_, _≤_, _<_, min}
-use native.Mathlib.Numerals.{add-one}
 use native.Mathlib.Omega.{arith}
 use borrow.Author.Tests.{ltb-true, ltb-false, leb-true, leb-false}
 use lib.Dec.{leb, ltb}
 use lib.ListN.{length, getD, take, drop, set, length-append, List·getD-append}
-use lib.Seq.{length-take-le, take-all, take-suc, drop-cons, set-at, getD-append-add}
+use lib.Seq.{take-all, getD-append-add}
+use Rattle.laws.specs.Writing.{copy-step}
 
 module _ {A : Type 0} where
   unfoldable pub rev : List A → List A
@@ -47,12 +47,7 @@ module _ {A : Type 0} where
   back-step d s old i len e h k =
       let n : length (rev s) ≡ len = length-rev s ∙ e in
       let v : getD s (len - 1 - i) d ≡ getD (rev s) i d = ap (λ (m : ℕ). getD s (m - 1 - i) d) (sym e) ∙ sym (getD-rev d s i (omega arith)) in
-      ap (λ (z : List A). set (take i (rev s) ++ z) i (getD s (len - 1 - i) d)) (drop-cons old i d k)
-      ∙ set-at (take i (rev s)) (getD old i d) (drop (suc i) old) (getD s (len - 1 - i) d) i (length-take-le i (rev s) (omega (arith, n)))
-      ∙ ap (λ (z : A). take i (rev s) ++ z ∷ drop (suc i) old) v
-      ∙ sym (append-assoc (take i (rev s)) (getD (rev s) i d ∷ []) (drop (suc i) old))
-      ∙ ap (λ (z : List A). z ++ drop (suc i) old) (sym (take-suc (rev s) i d (omega (arith, n))))
-      ∙ ap (λ (m : ℕ). take m (rev s) ++ drop m old) (sym (add-one i))
+      ap (set (take i (rev s) ++ drop i old) i) v ∙ copy-step d (rev s) old i (omega (arith, n)) k
 
   -- the first k, or all where there are fewer
   pub take-least : (k c : ℕ) (l : List A) → c ≡ min k (length l) → take c l ≡ take k l
@@ -62,7 +57,7 @@ module _ {A : Type 0} where
       go true q = let h : k ≤ length l = leb-true k (length l) q in let z : c ≡ k = omega arith in ap (λ (m : ℕ). take m l) z
       go false q = let h : length l < k = leb-false k (length l) q in take-all c l (omega arith) ∙ sym (take-all k l (omega arith))
 
-map-append : {A B : Type 0} (f : A → B) (l m : List A) → map f (l ++ m) ≡ map f l ++ map f m
+pub map-append : {A B : Type 0} (f : A → B) (l m : List A) → map f (l ++ m) ≡ map f l ++ map f m
 map-append f [] m = refl
 map-append {A} {B} f (x ∷ xs) m = ap (λ (z : List B). f x ∷ z) (map-append f xs m)
 

@@ -122,12 +122,8 @@ worse-dist x y e = nearer-dist y x e
 pub strictly-nearer : (x y : Item) → x .dist < y .dist → nearer x y ≡ true
 strictly-nearer x y h = is-nearer x y (inl h)
 
-pub nearer-worse : (x y : Item) → x .dist < y .dist → worse y x ≡ true
-unfolding worse
-nearer-worse x y h = strictly-nearer x y h
-
 -- the answers' order, which the definition says once more
-listed-is : (x y : Item) → listedFirst x y ≡ nearer x y
+pub listed-is : (x y : Item) → listedFirst x y ≡ nearer x y
 unfolding listedFirst nearer
 listed-is x y = refl
 

@@ -8,7 +8,10 @@ use Rattle.definition.specs.Batch.{Listed}
 abbrev pub listed : ℕ → List ℕ → Listed
 listed u fresh = record { node = u; fresh = fresh }
 
--- the fresh rows lie 64 words apart
+-- how many words a fresh row has, and so how far apart the fresh rows lie: the greatest degree
+abbrev pub freshWidth : ℕ
+freshWidth = 64
+
 unfoldable pub listedAt : List ℕ → List ℕ → List Listed
 listedAt [] t = []
-listedAt (u ∷ us) t = listed u (ids (take 64 t)) ∷ listedAt us (drop 64 t)
+listedAt (u ∷ us) t = listed u (ids (take freshWidth t)) ∷ listedAt us (drop freshWidth t)

@@ -1,18 +1,20 @@
 -- What is in a list: the tests and functions of the definition's Lists, by membership. `X-mem` tells what is in an X, `mem-X` puts something in it.
-use Prim.Native.Nat.{ℕ, zero, suc, _+_, _*_, _≤_, _<_, zero-le}
+use Prim.Native.Nat.{ℕ, zero, suc, _+_, _-_, _*_, _≤_, _<_, zero-le}
 use native.Mathlib.Nat.{eq-or-lt-of-le, zero-mul, suc-mul, zero-add, suc-add, add-comm}
+use native.Mathlib.Numerals.{add-one}
 use native.Mathlib.Omega.{arith}
 use mathlib.Core.Path.{_≡_, refl, sym, ap, ap₂, _∙_, subst}
 use mathlib.Core.Logic.{_⊎_, inl, inr}
-use mathlib.Core.Bool.{Bool, true, false, cond, false≢true}
-use mathlib.Core.List.{List, [], _∷_, _++_, map, List·Memᴰ as Mem, List·Memᴰ·head as here, List·Memᴰ·tail as there}
+use mathlib.Core.Bool.{Bool, true, false, _&&_, _||_, cond, false≢true, or-assoc, or-false}
+use mathlib.Core.List.{List, [], _∷_, _++_, map, append-nil, append-assoc, List·Memᴰ as Mem, List·Memᴰ·head as here, List·Memᴰ·tail as there}
 use mathlib.Core.List.{List·Memᴰ·not-nil as not-nil, List·Memᴰ·cases-cons as cases, Memᴰ·append-left as in-front, Memᴰ·append-right as in-back}
-use mathlib.Core.List.{List·Memᴰ·append-cases as split}
+use mathlib.Core.List.{List·Memᴰ·append-cases as split, Memᴰ·map as mem-map, Memᴰ·of-map as of-map}
 use borrow.Author.Tests.{eqb-true, eq-eqb, ne-eqb}
 use lib.Dec.{eqb}
-use lib.ListN.{length, take, drop, getD, replicate, length-append, length-drop, take-append-drop}
-use lib.Seq.{take-at, drop-at, take-nil, take-take, drop-drop}
+use lib.ListN.{length, take, drop, getD, replicate, length-append, length-drop, take-append-drop, drop-of-length-le}
+use lib.Seq.{take-at, drop-at, take-take, drop-drop, drop-cons}
 use Rattle.definition.specs.Lists.{each, keep, joined, run, upto, isIn, distinct, groups}
+use Rattle.laws.specs.Parts.{drop-take}
 use Rattle.laws.specs.Truth.{either, branch, and-both, both-and, or-either, either-or, is-false, not-both}
 
 -- the same members
@@ -22,6 +24,12 @@ pub record Same {A : Type 0} (xs ys : List A) : Type 0 where
 
 pub same-eq : {A : Type 0} {xs ys : List A} → xs ≡ ys → Same xs ys
 same-eq {A} {xs} e = subst (λ (l : List A). Same xs l) e (record { to = λ z m. m; from = λ z m. m })
+
+pub same-map : {A B : Type 0} (f : A → B) {xs ys : List A} → Same xs ys → Same (map f xs) (map f ys)
+same-map {A} {B} f {xs} {ys} s = record { to = over xs ys (s .to); from = over ys xs (s .from) }
+  where
+    over : (us vs : List A) → ((z : A) → Mem z us → Mem z vs) → (w : B) → Mem w (map f us) → Mem w (map f vs)
+    over us vs h w m = let t = of-map f us m in subst (λ (v : B). Mem v (map f vs)) (t .2) (mem-map f (h (t .0) (t .1)))
 
 -- ---- lists of anything
 
@@ -158,6 +166,11 @@ module _ {A : Type 0} where
   mem-joined (k ∷ ls) {l} {z} m h =
       cons-elim (λ u. Mem z u → Mem z (k ++ joined ls)) k ls (λ i. in-front (joined ls) i) (λ u j i. in-back k (mem-joined ls j i)) l m h
 
+pub joined-snoc : {A B : Type 0} (f : A → List B) (xs : List A) (x : A) → joined (map f (xs ++ (x ∷ []))) ≡ joined (map f xs) ++ f x
+unfolding joined
+joined-snoc f [] x = append-nil (f x)
+joined-snoc f (y ∷ ys) x = rw (joined-snoc f ys x, append-assoc) refl
+
 -- ---- isIn
 
 pub isIn-mem : (x : ℕ) (ys : List ℕ) → isIn x ys ≡ true → Mem x ys
@@ -183,6 +196,15 @@ isIn-none x ys e m = not-both e (mem-isIn x ys m)
 
 pub none-isIn : (x : ℕ) (ys : List ℕ) → ¬ Mem x ys → isIn x ys ≡ false
 none-isIn x ys n = is-false (isIn x ys) (λ e. n (isIn-mem x ys e))
+
+pub isIn-append : (x : ℕ) (ys zs : List ℕ) → isIn x (ys ++ zs) ≡ (isIn x ys || isIn x zs)
+unfolding isIn
+isIn-append x [] zs = refl
+isIn-append x (y ∷ ys) zs = ap (λ (t : Bool). eqb x y || t) (isIn-append x ys zs) ∙ sym (or-assoc (eqb x y) (isIn x ys) (isIn x zs))
+
+pub isIn-snoc : (x : ℕ) (ys : List ℕ) (z : ℕ) → isIn x (ys ++ (z ∷ [])) ≡ (isIn x ys || eqb x z)
+unfolding isIn
+isIn-snoc x ys z = isIn-append x ys (z ∷ []) ∙ ap (λ (t : Bool). isIn x ys || t) (or-false (eqb x z))
 
 -- ---- runs of numbers
 
@@ -267,29 +289,34 @@ mem-groups (suc k) g xs h {z} m =
     (λ u i. let r = mem-groups k g (drop g xs) (omega arith) i in (r .0, there (r .1), r .2)) z
     (subst (λ (l : List ℕ). Mem z l) (sym (take-append-drop g xs)) m)
 
--- past a front that is shorter than the cut
-drop-take : (k m : ℕ) (xs : List ℕ) → drop k (take (k + m) xs) ≡ take m (drop k xs)
-drop-take zero m xs = rw zero-add refl
-drop-take (suc k) m [] = ap (drop (suc k)) (take-nil (suc k + m)) ∙ sym (take-nil m)
-drop-take (suc k) m (x ∷ xs) = rw suc-add (drop-take k m xs)
-
 -- the first a groups, and the others
 pub groups-add : (a b g : ℕ) (xs : List ℕ) → groups (a + b) g xs ≡ groups a g (take (a * g) xs) ++ groups b g (drop (a * g) xs)
 unfolding groups
 groups-add zero b g xs = rw (zero-add, zero-mul) refl
 groups-add (suc a) b g xs =
     let e : suc a * g ≡ g + a * g = suc-mul a g ∙ add-comm (a * g) g in
+    let less : suc a * g - g ≡ a * g = omega arith in
     let first : take g (take (suc a * g) xs) ≡ take g xs = take-take g (suc a * g) xs (omega arith) in
-    let front : drop g (take (suc a * g) xs) ≡ take (a * g) (drop g xs) = rw e (drop-take g (a * g) xs) in
+    let front : drop g (take (suc a * g) xs) ≡ take (a * g) (drop g xs) = rw (drop-take g (suc a * g) xs, less) refl in
     let back : drop (suc a * g) xs ≡ drop (a * g) (drop g xs) = rw e (sym (drop-drop (a * g) g xs)) in
     rw (suc-add, first, front, back) (ap (λ (l : List (List ℕ)). take g xs ∷ l) (groups-add a b g (drop g xs)))
 
 -- ---- by places
 
-pub mem-at : (xs : List ℕ) (k : ℕ) → k < length xs → Mem (getD xs k 0) xs
-mem-at [] k h = absurd (omega arith)
-mem-at (x ∷ xs) zero h = here refl
-mem-at (x ∷ xs) (suc k) h = there (mem-at xs k (omega arith))
+-- what stands at a place is in the list, whatever d is read beyond its end
+pub mem-at : {A : Type 0} (d : A) (xs : List A) (k : ℕ) → k < length xs → Mem (getD xs k d) xs
+mem-at d [] k h = absurd (omega arith)
+mem-at d (x ∷ xs) zero h = here refl
+mem-at d (x ∷ xs) (suc k) h = there (mem-at d xs k (omega arith))
+
+-- a test of every element from i on is the test of the one at i and of every one after it; from the end on there is none
+pub each-step : (p : ℕ → Bool) (xs : List ℕ) (i : ℕ) → i < length xs → each p (drop i xs) ≡ (p (getD xs i 0) && each p (drop (i + 1) xs))
+unfolding each
+each-step p xs i h = rw (add-one i, drop-cons xs i 0 h) refl
+
+pub each-end : (p : ℕ → Bool) (xs : List ℕ) (i : ℕ) → length xs ≤ i → each p (drop i xs) ≡ true
+unfolding each
+each-end p xs i h = rw (drop-of-length-le xs h) refl
 
 pub each-at : (p : ℕ → Bool) (xs : List ℕ) → ((k : ℕ) → k < length xs → p (getD xs k 0) ≡ true) → each p xs ≡ true
 unfolding each

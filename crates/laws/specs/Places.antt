@@ -1,25 +1,20 @@
--- Lists by places: what stands at a place is in the list, and in a list in order an earlier place is ahead of a later one; a word of a table is in a row.
+-- In a list in order what stands at an earlier place is ahead of what stands at a later one; a word of a table is in one of its rows.
 use Prim.Native.Nat.{ℕ, zero, suc, _<_}
 use native.Mathlib.Omega.{arith}
-use mathlib.Core.Path.{_≡_, refl, sym, subst}
+use mathlib.Core.Path.{_≡_, sym, subst}
 use mathlib.Core.Bool.{Bool, true}
-use mathlib.Core.List.{List, [], _∷_, map, List·Memᴰ as Mem, List·Memᴰ·head as here, List·Memᴰ·tail as there, Memᴰ·of-map as of-map}
+use mathlib.Core.List.{List, map, List·Memᴰ as Mem, Memᴰ·of-map as of-map}
 use lib.ListN.{length, getD}
 use Rattle.definition.specs.Lists.{run, upto}
 use Rattle.definition.specs.Tables.{tableOf}
-use Rattle.laws.specs.Members.{joined-mem, run-mem}
+use Rattle.laws.specs.Members.{joined-mem, run-mem, mem-at}
 use Rattle.laws.specs.Sorting.{Ordered, none, more}
 
 module _ {A : Type 0} (d : A) where
-  pub place-in : (xs : List A) (k : ℕ) → k < length xs → Mem (getD xs k d) xs
-  place-in [] k h = absurd (omega arith)
-  place-in (x ∷ xs) zero h = here refl
-  place-in (x ∷ xs) (suc k) h = there (place-in xs k (omega arith))
-
   pub places-ordered : {ahead : A → A → Bool} {xs : List A} → Ordered ahead xs → (i j : ℕ) → i < j → j < length xs → ahead (getD xs i d) (getD xs j d) ≡ true
   places-ordered none i j h l = absurd (omega arith)
   places-ordered (more m o) i zero h l = absurd (omega arith)
-  places-ordered (more {xs = xs} m o) zero (suc j) h l = m (getD xs j d) (place-in xs j (omega arith))
+  places-ordered (more {xs = xs} m o) zero (suc j) h l = m (getD xs j d) (mem-at d xs j (omega arith))
   places-ordered (more m o) (suc i) (suc j) h l = places-ordered o i j (omega arith) (omega arith)
 
 -- a word of a table is in one of its rows

@@ -1,17 +1,19 @@
 -- Tables row by row, and rows as ids with padding after them.
 use Prim.Native.Nat.{ℕ, zero, suc, _+_, _-_, _*_, _≤_, _<_}
-use native.Mathlib.Nat.{zero-mul, suc-mul, add-zero, zero-add, add-suc, suc-add, add-comm, le-of-eq, le-trans, mul-le-mul-right}
+use native.Mathlib.Nat.{zero-mul, suc-mul, add-zero, zero-add, add-suc, suc-add, add-comm, add-sub-cancel-left, le-of-eq, le-trans, mul-le-mul-right}
 use native.Mathlib.Omega.{arith}
 use mathlib.Core.Path.{_≡_, refl, sym, ap, ap₂, _∙_}
 use mathlib.Core.Bool.{Bool, true, not}
 use mathlib.Core.List.{List, [], _∷_, _++_, map, append-nil, List·Memᴰ as Mem}
 use borrow.Author.Tests.{eqb-true, eq-eqb, ne-eqb}
 use lib.Dec.{eqb}
-use lib.ListN.{length, take, drop, replicate, length-append, length-drop, length-replicate, take-append-drop}
-use lib.Seq.{take-at, drop-at, drop-drop, take-add, take-all, length-take-le}
+use lib.ListN.{length, getD, take, drop, replicate, length-append, length-drop, length-replicate, take-append-drop, getD-replicate, List·getD-append}
+use lib.Seq.{take-at, drop-at, drop-drop, take-add, take-all, length-take-le, getD-append-add}
 use Rattle.definition.specs.Lists.{each, keep, joined, run, upto}
+use Rattle.definition.specs.Slack.{slack}
 use Rattle.definition.specs.Tables.{pad, row, ids, padded, tableOf, onlyPad, idsFirst}
 use Rattle.laws.specs.Truth.{and-both}
+use Rattle.laws.specs.Parts.{part}
 use Rattle.laws.specs.Members.{mem-each, replicate-mem, keep-append, keep-all, keep-none, keep-length, keep-full, take-mem, drop-mem}
 
 -- ---- a table and its rows
@@ -25,6 +27,11 @@ row-length n width table size i h =
     let f = row-fits i n width h in
     let d = length-drop (i * width) table in
     length-take-le width (drop (i * width) table) (omega arith)
+
+-- the part that is lent is the row
+pub part-row : (width : ℕ) (table : List ℕ) (i : ℕ) → part (i * width) (i * width + width) table ≡ row width table i
+unfolding row
+part-row width table i = rw add-sub-cancel-left refl
 
 pub row-mem : (width : ℕ) (table : List ℕ) (i : ℕ) {w : ℕ} → Mem w (row width table i) → Mem w table
 unfolding row
@@ -81,11 +88,33 @@ pub tableOf-row : (n width : ℕ) (t : List ℕ) → length t ≡ n * width → 
 unfolding tableOf upto
 tableOf-row n width t h = rows-of width t n 0 ∙ rw zero-mul (take-all (n * width) t (le-of-eq h))
 
+-- ---- how wide a row is
+
+pub slack-wide : (degree : ℕ) → degree ≤ slack degree
+unfolding slack
+slack-wide degree = omega arith
+
+pub slack-few : (degree : ℕ) → degree ≤ 64 → slack degree ≤ 84
+unfolding slack
+slack-few degree h = omega arith
+
 -- ---- ids, then padding
 
 pub length-padded : (width : ℕ) (xs : List ℕ) → length xs ≤ width → length (padded width xs) ≡ width
 unfolding padded
 length-padded width xs h = simp (length-append, length-replicate) (omega arith)
+
+-- the word at a place of a padded row
+pub padded-id : (width : ℕ) (xs : List ℕ) (k : ℕ) → k < length xs → getD (padded width xs) k 0 ≡ getD xs k 0
+unfolding padded
+padded-id width xs k h = List·getD-append xs (replicate (width - length xs) pad) 0 k h
+
+pub padded-pad : (width : ℕ) (xs : List ℕ) (k : ℕ) → length xs ≤ k → k < width → getD (padded width xs) k 0 ≡ pad
+unfolding padded
+padded-pad width xs k h l =
+    let past : k ≡ length xs + (k - length xs) = omega arith in
+    ap (λ (j : ℕ). getD (xs ++ replicate (width - length xs) pad) j 0) past
+    ∙ getD-append-add xs (replicate (width - length xs) pad) (k - length xs) 0 ∙ getD-replicate (width - length xs) (k - length xs) pad 0 (omega arith)
 
 pub only-pad : (ws : List ℕ) → onlyPad ws ≡ true → ws ≡ replicate (length ws) pad
 unfolding onlyPad each
@@ -98,11 +127,20 @@ pub pad-only : (k : ℕ) → onlyPad (replicate k pad) ≡ true
 unfolding onlyPad
 pad-only k = mem-each (λ v. eqb v pad) (replicate k pad) (λ x m. eq-eqb x pad (replicate-mem k pad m))
 
-no-ids : (k : ℕ) → ids (replicate k pad) ≡ []
+-- an id in front, padding in front
+pub ids-first : (w : ℕ) (ws : List ℕ) → (w ≡ pad → ⊥) → ids (w ∷ ws) ≡ w ∷ ids ws
+unfolding ids keep
+ids-first w ws h = rw (ne-eqb w pad h) refl
+
+pub ids-skip : (w : ℕ) (ws : List ℕ) → w ≡ pad → ids (w ∷ ws) ≡ ids ws
+unfolding ids keep
+ids-skip w ws h = rw (eq-eqb w pad h) refl
+
+pub no-ids : (k : ℕ) → ids (replicate k pad) ≡ []
 unfolding ids
 no-ids k = keep-none (λ w. not (eqb w pad)) (replicate k pad) (λ x m. ap not (eq-eqb x pad (replicate-mem k pad m)))
 
-ids-append : (xs ys : List ℕ) → ids (xs ++ ys) ≡ ids xs ++ ids ys
+pub ids-append : (xs ys : List ℕ) → ids (xs ++ ys) ≡ ids xs ++ ids ys
 unfolding ids
 ids-append xs ys = keep-append (λ w. not (eqb w pad)) xs ys
 
@@ -113,6 +151,10 @@ ids-pad xs k = ids-append xs (replicate k pad) ∙ ap (λ (l : List ℕ). ids xs
 pub ids-of : (xs : List ℕ) (k : ℕ) → ((x : ℕ) → Mem x xs → ¬ (x ≡ pad)) → ids (xs ++ replicate k pad) ≡ xs
 unfolding ids
 ids-of xs k f = ids-pad xs k ∙ keep-all (λ w. not (eqb w pad)) xs (λ x m. ap not (ne-eqb x pad (f x m)))
+
+pub ids-padded : (width : ℕ) (xs : List ℕ) → ((x : ℕ) → Mem x xs → ¬ (x ≡ pad)) → ids (padded width xs) ≡ xs
+unfolding padded
+ids-padded width xs f = ids-of xs (width - length xs) f
 
 pub ids-few : (words : List ℕ) → length (ids words) ≤ length words
 unfolding ids

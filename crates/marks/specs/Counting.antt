@@ -1,13 +1,13 @@
--- How many places of a list are e; which numbers a list has.
-use mathlib.Core.Path.{_≡_, refl, ap, _∙_}
-use mathlib.Core.Bool.{Bool, true, false, _||_, cond}
-use mathlib.Core.List.{List, [], _∷_, _++_}
+-- How many places of a list are e. (Which numbers a list has is a law of lists.)
+use mathlib.Core.Path.{_≡_, refl, ap}
+use mathlib.Core.Bool.{Bool, true, false, cond}
+use mathlib.Core.List.{List, [], _∷_}
 use Prim.Native.Nat.{ℕ, zero, suc, _≤_, _<_}
 use native.Mathlib.Omega.{arith}
 use borrow.Author.Tests.{eq-eqb, ne-eqb}
 use lib.Dec.{eqb}
 use lib.ListN.{length, getD, set}
-use Rattle.definition.specs.Lists.{isIn}
+pub use Rattle.laws.specs.Members.{isIn-snoc as in-snoc}
 use Rattle.marks.specs.Marked.{count}
 
 pub count-le : (e : ℕ) (l : List ℕ) → count e l ≤ length l
@@ -35,22 +35,10 @@ count-set e [] i h n = absurd (omega arith)
 count-set e (x ∷ xs) zero h n = rw (ne-eqb x e n, eq-eqb e e refl) refl
 count-set e (x ∷ xs) (suc i) h n = go (eqb x e) (count-set e xs i (omega arith) n)
   where
-    go : (t : Bool) → count e (set xs i e) ≡ suc (count e xs) → cond t (suc (count e (set xs i e))) (count e (set xs i e)) ≡ suc (cond t (suc (count e xs)) (count e xs))
+    go : (t : Bool) → count e (set xs i e) ≡ suc (count e xs)
+        → cond t (suc (count e (set xs i e))) (count e (set xs i e)) ≡ suc (cond t (suc (count e xs)) (count e xs))
     go true k = ap suc k
     go false k = k
-
-or-right : (a b c : Bool) → a || (b || c) ≡ (a || b) || c
-or-right true b c = refl
-or-right false b c = refl
-
-or-none : (a : Bool) → a || false ≡ a
-or-none true = refl
-or-none false = refl
-
-pub in-snoc : (i : ℕ) (l : List ℕ) (x : ℕ) → isIn i (l ++ (x ∷ [])) ≡ (isIn i l || eqb i x)
-unfolding isIn
-in-snoc i [] x = or-none (eqb i x)
-in-snoc i (c ∷ cs) x = ap (λ (t : Bool). eqb i c || t) (in-snoc i cs x) ∙ or-right (eqb i c) (isIn i cs) (eqb i x)
 
 pub count-none : (e : ℕ) (l : List ℕ) → ((i : ℕ) → i < length l → getD l i 0 ≡ e → ⊥) → count e l ≡ 0
 unfolding count

@@ -1,4 +1,4 @@
--- The epoch of the next walk: one more, or 1 on cleared marks.
+-- The epoch of the next walk: one more, above every mark; or 1, on marks that are cleared.
 use mathlib.Core.Path.{_≡_, sym, ap, _∙_}
 use mathlib.Core.Bool.{Bool, cond}
 use mathlib.Core.List.{List}
@@ -12,7 +12,12 @@ use Rattle.marks.specs.Marked.{Marks, NextEpoch}
 
 module _ (n : ℕ) (words : List ℕ) (epoch : ℕ) (fits : n ≤ length words) where
   pub epoch-more : Marks n words epoch → (epoch ≡ 0xFFFFFFFF → ⊥) → NextEpoch n words words epoch (epoch + 1)
-  epoch-more m h = record { is = sym (ap (λ (t : Bool). cond t 1 (epoch + 1)) (ne-eqb epoch 0xFFFFFFFF h)); below = λ i k. omega (arith, m i k); kept = within-none 0 n words }
+  epoch-more m h =
+      record {
+        is = sym (ap (λ (t : Bool). cond t 1 (epoch + 1)) (ne-eqb epoch 0xFFFFFFFF h));
+        below = λ i k. omega (arith, m i k);
+        kept = within-none 0 n words;
+      }
 
   pub epoch-clear : epoch ≡ 0xFFFFFFFF → (ys : List ℕ) → ys ≡ replicate (length (part 0 n words)) 0 → NextEpoch n words (putMid 0 (n - 0) words ys) epoch 1
   epoch-clear h ys e =

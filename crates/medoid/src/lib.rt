@@ -2,17 +2,15 @@
 
 use definition::Answer;
 ghost use mathlib.Core.Path.{_≡_};
-ghost use mathlib.Core.Bool.{true};
-ghost use Prim.Native.Nat.{_*_, _≤_, _<_};
-ghost use lib.ListN.{length};
+ghost use Prim.Native.Nat.{ℕ, _*_, _≤_, _<_};
+ghost use lib.ListN.{length, getD};
 ghost use Rattle.definition.specs.Metric.{between};
 ghost use Rattle.definition.specs.Medoid.{score, medoid};
 ghost use Rattle.definition.specs.Outcome.{medoidOut};
-ghost use Rattle.checks.specs.Below.{allBelow};
 
 // The distances of entry i to the pivots, added in their order, rounded at each sum.
 fn score(n: usize, dim: usize, vectors: &[u8], pivots: &[u32], i: usize) -> f32
-    requires { ⌜ (dim ≤ 256) × (length (now vectors) ≡ n * dim) × (i < n) × (allBelow n (now pivots) ≡ true) ⌝ }
+    requires { ⌜ (dim ≤ 256) × (length (now vectors) ≡ n * dim) × (i < n) × ((j : ℕ) → j < length (now pivots) → getD (now pivots) j 0 < n) ⌝ }
     ensures { λ r. ⌜ r ≡ score (between dim (now (vectors .entry))) (now (pivots .entry)) i ⌝ }
 {
     let mut total: f32 = 0.0;
@@ -27,7 +25,7 @@ fn score(n: usize, dim: usize, vectors: &[u8], pivots: &[u32], i: usize) -> f32
 
 // The entry with the least score: a later one leads only if its score is strictly less.
 fn leader(n: usize, dim: usize, vectors: &[u8], pivots: &[u32]) -> usize
-    requires { ⌜ (0 < n) × (dim ≤ 256) × (length (now vectors) ≡ n * dim) × (allBelow n (now pivots) ≡ true) ⌝ }
+    requires { ⌜ (0 < n) × (dim ≤ 256) × (length (now vectors) ≡ n * dim) × ((j : ℕ) → j < length (now pivots) → getD (now pivots) j 0 < n) ⌝ }
     ensures { λ r. ⌜ (r ≡ medoid (between dim (now (vectors .entry))) (now (pivots .entry)) n) × (r < n) ⌝ }
 {
     let mut id = 0;

@@ -12,7 +12,7 @@ use mir.Syntax.{w32}
 use mir.Val.{SFits, Fits, toZ, ofZ}
 use mir.ValLaws.{toZ-pos, toZ-ofZ}
 use Rattle.definition.specs.Metric.{gap, squared}
-use Rattle.metric.specs.Laws.{gap-le, squared-le}
+use Rattle.theory.specs.Metric.{gap-most, squared-most}
 
 abs-sub : (x k : ℕ) → natAbs (subℕ x (suc k)) ≡ gap x (suc k)
 unfolding gap
@@ -37,7 +37,7 @@ mag-le (negsuc n) = omega arith
 
 difference-fits : (x y : ℕ) → x < 256 → y < 256 → SFits w32 (pos x -ℤ pos y)
 difference-fits x y p q =
-    record { sfits = lt-of-le-of-lt (le-trans (mag-le (pos x -ℤ pos y)) (subst (λ (n : ℕ). n ≤ 255) (sym (abs-difference x y)) (gap-le x y p q))) (lit< tt) }
+    record { sfits = lt-of-le-of-lt (le-trans (mag-le (pos x -ℤ pos y)) (subst (λ (n : ℕ). n ≤ 255) (sym (abs-difference x y)) (gap-most x y p q))) (lit< tt) }
 
 square-is : (x y : ℕ) → (pos x -ℤ pos y) *ℤ (pos x -ℤ pos y) ≡ pos (squared x y)
 unfolding squared
@@ -58,11 +58,13 @@ module _ (x y : ℕ) (p : x < 256) (q : y < 256) where
   d-is = toZ-ofZ w32 (toZ w32 x -ℤ toZ w32 y) sub-fits ∙ rw (read x p, read y q)
 
   pub mul-fits : SFits w32 (d *ℤ d)
-  mul-fits = subst (λ (z : ℤ). SFits w32 z) (sym (ap (λ (z : ℤ). z *ℤ z) d-is ∙ square-is x y)) (record { sfits = lt-of-le-of-lt (squared-le x y p q) (lit< tt) })
+  mul-fits =
+      subst (λ (z : ℤ). SFits w32 z) (sym (ap (λ (z : ℤ). z *ℤ z) d-is ∙ square-is x y))
+      (record { sfits = lt-of-le-of-lt (squared-most x y p q) (lit< tt) })
 
   pub product-is : toZ w32 (ofZ w32 (d *ℤ d)) ≡ pos (squared x y)
   product-is = toZ-ofZ w32 (d *ℤ d) mul-fits ∙ ap (λ (z : ℤ). z *ℤ z) d-is ∙ square-is x y
 
   pub cast-fits : T (nonNeg (toZ w32 (ofZ w32 (d *ℤ d)))) × Fits w32 (natAbs (toZ w32 (ofZ w32 (d *ℤ d))))
   cast-fits =
-      subst (λ (z : ℤ). T (nonNeg z) × Fits w32 (natAbs z)) (sym product-is) (tt, record { fits = lt-of-le-of-lt (squared-le x y p q) (lit< tt) })
+      subst (λ (z : ℤ). T (nonNeg z) × Fits w32 (natAbs z)) (sym product-is) (tt, record { fits = lt-of-le-of-lt (squared-most x y p q) (lit< tt) })

@@ -1,4 +1,4 @@
--- The metric in code: exact whole numbers, its laws, the cases of the public call, and the stretches that its loops go through.
+-- The metric in code: exact whole numbers, entries as they are lent, the cases of the public call, and the stretches that its loops go through.
 pub mod Exact
 pub mod Laws
 pub mod Cases

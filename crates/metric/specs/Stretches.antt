@@ -6,10 +6,10 @@ use native.Mathlib.Nat.{le-refl, add-zero, zero-add}
 use native.Mathlib.Numerals.{add-one}
 use native.Mathlib.Omega.{arith}
 use lib.ListN.{length, getD, drop, length-drop, drop-of-length-le}
-use lib.Seq.{drop-cons, getD-drop}
+use lib.Seq.{drop-cons}
 use Rattle.definition.specs.Metric.{squared, summed, metric}
 use Rattle.whole.specs.Whole.{farthest}
-use Rattle.metric.specs.Laws.{Bytes, metric-small}
+use Rattle.theory.specs.Metric.{Bytes, bytes-drop, good-most, byte-metric}
 
 -- the samples from `from` up to `to`, in two vectors of one length
 pub record Stretch (a b : List ℕ) (from to : ℕ) : Type 0 where
@@ -37,11 +37,8 @@ pub adds-all : (a b : List ℕ) (r : ℕ) → Adds a b 0 (length a) r → r ≡ 
 unfolding metric summed
 adds-all a b r p = sym (add-zero r) ∙ subst (λ (l : List ℕ). r + metric l (drop (length a) b) ≡ metric a b) (drop-of-length-le a (le-refl (length a))) (p .is)
 
-bytes-drop : (a : List ℕ) (i : ℕ) → Bytes a → Bytes (drop i a)
-bytes-drop a i p k = rw (getD-drop i a k 0) (p (i + k))
-
 pub adds-small : (a b : List ℕ) (from to r : ℕ) → Bytes a → Bytes b → length a ≤ 256 → Adds a b from to r → r ≤ farthest
 adds-small a b from to r p q h e =
     let l = length-drop from a in
-    let k = metric-small (drop from a) (drop from b) (bytes-drop a from p) (bytes-drop b from q) (omega arith) in
+    let k = good-most byte-metric (drop from a) (drop from b) (omega arith) (bytes-drop from a p) (bytes-drop from b q) in
     omega (arith, e .is)

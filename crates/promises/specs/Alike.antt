@@ -1,15 +1,13 @@
 -- What does not matter to a call: "Close ignores the record's beam and extra seeds", and "NaN alpha and any alpha below 1.0 act as 1.0". Two calls that differ
 -- only in that leave the same, on every input, refusals included.
-use Prim.Native.Nat.{ℕ, _*_}
-use native.Mathlib.Omega.{arith}
+use Prim.Native.Nat.{ℕ}
 use mathlib.Core.Path.{_≡_, refl, ap, _∙_}
-use mathlib.Core.Bool.{Bool, true, false, cond, false≢true, true≢false}
-use borrow.Author.Tests.{ltb-true, ltb-false, le-ltb}
+use mathlib.Core.Bool.{true, false}
 use lib.ListN.{length}
-use lib.Ieee.{Float, nan, inf, fin, up, down, lt, ofBits}
+use lib.Ieee.{Float, nan, lt, ofBits}
 use Rattle.definition.specs.declared.Params.{Params}
 use Rattle.definition.specs.Lists.{cleared}
-use Rattle.definition.specs.Floats.{nought, one, four, larger, above}
+use Rattle.definition.specs.Floats.{nought, one}
 use Rattle.definition.specs.Metric.{between}
 use Rattle.definition.specs.Prune.{targetOf}
 use Rattle.definition.specs.Batch.{pruneIds, wideRow, wideIds}
@@ -17,7 +15,8 @@ use Rattle.definition.specs.Build.{open′, closedIds, close, built}
 use Rattle.definition.specs.Refusals.{BatchCall, CloseCall, BuildCall, batchNumber, closeNumber, buildNumber, badAlpha, buildWords, buildFloats}
 use Rattle.definition.specs.Outcome.{byNumber, settingOf, refused, done, batchKept, batchDone, batchOut, closeKept, closeDone, closeOut, buildKept, builtWide}
 use Rattle.definition.specs.Outcome.{buildDone, buildOut}
-use Rattle.promises.specs.build.Alphas.{close-alike, batch-alike, batches-alike}
+use Rattle.theory.specs.build.Alphas.{below-not-above, target-one, close-alike, batch-alike, batches-alike}
+use Rattle.accepted.specs.Checks.{alpha-one}
 
 -- ---- the same call with other parameters
 
@@ -76,42 +75,17 @@ abbrev pub withAlpha : Float → Params → Params
 withAlpha alpha p = record { degree = p .degree; beam = p .beam; alpha = alpha; extra = p .extra }
 
 -- such an alpha is not above 1.0
-not-above : (alpha : Float) → lt alpha one ≡ true → lt one alpha ≡ false
-unfolding lt one ofBits
-not-above nan h = refl
-not-above (inf true) h = refl
-not-above (inf false) h = absurd (false≢true h)
-not-above (fin true m e) h = refl
-not-above (fin false m e) h = let k = ltb-true (m * up e * 1) (1 * down e) h in le-ltb (1 * down e) (m * up e * 1) (omega arith)
-
 acts-low : (alpha : Float) → ActsAsOne alpha → lt one alpha ≡ false
 unfolding lt one ofBits
 acts-low alpha not-a-number = refl
-acts-low alpha (below-one h) = not-above alpha h
-
--- nor above 4.0
-admitted : (alpha : Float) → lt one alpha ≡ false → badAlpha alpha ≡ badAlpha one
-unfolding badAlpha above lt one four ofBits
-admitted nan h = refl
-admitted (inf true) h = refl
-admitted (inf false) h = absurd (true≢false h)
-admitted (fin true m e) h = refl
-admitted (fin false m e) h = let k = ltb-false (1 * down e) (m * up e * 1) h in le-ltb (4 * down e) (m * up e * 1) (omega arith)
-
-same-target : (alpha : Float) → lt one alpha ≡ false → targetOf alpha ≡ targetOf one
-unfolding targetOf larger
-same-target alpha h = ap (λ (b : Bool). cond b alpha one) h ∙ itself (lt one one)
-  where
-    itself : (b : Bool) → one ≡ cond b one one
-    itself true = refl
-    itself false = refl
+acts-low alpha (below-one h) = below-not-above alpha h
 
 module _ (p : Params) (h : ActsAsOne (p .alpha)) where
   not-5 : badAlpha (p .alpha) ≡ badAlpha one
-  not-5 = admitted (p .alpha) (acts-low (p .alpha) h)
+  not-5 = alpha-one (p .alpha) (acts-low (p .alpha) h)
 
   target : targetOf (p .alpha) ≡ targetOf one
-  target = same-target (p .alpha) (acts-low (p .alpha) h)
+  target = target-one (p .alpha) (acts-low (p .alpha) h)
 
 -- a batch
 

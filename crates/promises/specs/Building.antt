@@ -18,12 +18,14 @@ use Rattle.definition.specs.Outcome.{BatchOut, OpenOut, CloseOut, BuildOut, don
 use Rattle.definition.specs.Outcome.{closeKept, closeDone, closeOut, buildKept, builtWide, buildDone, buildOut}
 use Rattle.laws.specs.Truth.{or-neither, neither-or}
 use Rattle.laws.specs.Filled.{cleared-long, cleared-beyond}
-use Rattle.promises.specs.Kept.{TableKept}
+use Rattle.theory.specs.Kept.{TableKept}
 use Rattle.promises.specs.Calls.{Room, AlikeBeyond, openingCall, runCall, closingCall, Runs, all-run, next-run, ByCalls}
-use Rattle.promises.specs.Accepted.{success, build-accepted}
-use Rattle.promises.specs.Rows.{right-length, kept-accepted, open-keeps-rows, batch-keeps-rows, build-keeps-rows}
-use Rattle.promises.specs.build.Stretches.{Stretch, stretch-taken, stretch-dropped}
-use Rattle.promises.specs.build.Passes.{pass, not-short, seeds-pass, nodes-pass, build-passes}
+use Rattle.promises.specs.Rows.{open-keeps-rows, batch-keeps-rows, build-keeps-rows}
+use Rattle.theory.specs.build.Stretches.{Stretch, stretch-taken, stretch-dropped}
+use Rattle.accepted.specs.Chain.{pass}
+use Rattle.accepted.specs.Outcomes.{by-success}
+use Rattle.accepted.specs.Checks.{count-low, length-passes, table-passes, seeds-passes, nodes-passes, room-passes}
+use Rattle.accepted.specs.Build.{build-passes, build-accepted}
 
 -- a run shortens the order
 shorter : (u : ℕ) (us : List ℕ) (fuel : ℕ) → length (u ∷ us) ≤ suc fuel → length (drop batchSize (u ∷ us)) ≤ fuel
@@ -32,7 +34,13 @@ shorter u us fuel h = omega (arith, length-drop 256 (u ∷ us))
 
 module _ (c : BuildCall) (e : buildNumber c ≡ 0) where
   low : c .n < pad
-  low = build-accepted c e .low
+  low = count-low (build-accepted c e .entries .nodes)
+
+  -- the order with its groups of seeds
+  ordered : Stretch (c .n) (c .start) (c .params .extra) (c .order) (c .seeds)
+  ordered =
+      let a = build-accepted c e in
+      record { below = a .order .below; once = a .order .once; size = rw (a .order-is) (a .seeds .size); good = rw (a .order-is) (a .seeds .good) }
 
   -- ---- open
 
@@ -45,13 +53,14 @@ module _ (c : BuildCall) (e : buildNumber c ≡ 0) where
         pass 2 _ _ (or-neither (badCount (c .n)) _ (p .vectors) .0)
         (pass 3 _ _ (p .degree)
         (pass 8 _ _
-        (neither-or (badTable (c .n) (c .params .degree) (c .opening)) (badLength (c .n) width wide) (p .opening) (right-length (c .n) width wide size)) refl))
+        (neither-or (badTable (c .n) (c .params .degree) (c .opening)) (badLength (c .n) width wide) (p .opening)
+        (length-passes (c .n) width wide size)) refl))
 
     opening-leaves : openOut (openingCall c wide) .wide ≡ open′ (c .n) (c .params .degree) (c .opening)
     unfolding openOut openDone
     opening-leaves =
         let o = openingCall c wide in
-        ap (λ (r : OpenOut). r .wide) (success (openNumber o) (openKept o) (openDone o) opening-done)
+        ap (λ (r : OpenOut). r .wide) (by-success (openKept o) (openDone o) (openNumber o) opening-done)
 
   -- ---- a run
 
@@ -72,16 +81,16 @@ module _ (c : BuildCall) (e : buildNumber c ≡ 0) where
       (pass 4 _ _ (p .beam)
       (pass 5 _ _ (p .alpha)
       (pass 6 _ _ (p .start)
-      (pass 7 _ _ (seeds-pass (c .n) (c .start) (c .params .extra) nodes own t (p .extra))
-      (pass 8 _ _ (kept-accepted (c .n) (slack (c .params .degree)) wide low k)
-      (pass 9 _ _ (nodes-pass (c .n) (c .start) (c .params .extra) nodes own t (omega (arith, length-take 256 order)))
-      (pass 10 _ _ (not-short (c .n) words floats r)
+      (pass 7 _ _ (seeds-passes (c .n) (c .params .extra) (c .start) (length nodes) own (build-accepted c e .seeds .limits) (t .size) (t .good))
+      (pass 8 _ _ (table-passes (c .n) (slack (c .params .degree)) wide low k)
+      (pass 9 _ _ (nodes-passes (c .n) nodes (omega (arith, length-take 256 order)) (t .below) (t .once))
+      (pass 10 _ _ (room-passes (c .n) words floats (r .words-enough) (r .floats-enough))
       refl)))))))))
 
   run-leaves : (b : BatchCall) → batchNumber b ≡ 0
       → batchOut b .wide ≡ batch (settingOf (b .n) (b .dim) (b .vectors) (b .params)) (b .start) (b .params .extra) (b .nodes) (b .seeds) (b .wide)
   unfolding batchOut batchDone
-  run-leaves b z = ap (λ (r : BatchOut). r .wide) (success (batchNumber b) (batchKept b) (batchDone b) z)
+  run-leaves b z = ap (λ (r : BatchOut). r .wide) (by-success (batchKept b) (batchDone b) (batchNumber b) z)
 
   -- ---- the runs, from any table that keeps its rows
 
@@ -108,7 +117,7 @@ module _ (c : BuildCall) (e : buildNumber c ≡ 0) where
 
   whole : buildOut c ≡ buildDone c
   unfolding buildOut
-  whole = success (buildNumber c) (buildKept c) (buildDone c) e
+  whole = by-success (buildKept c) (buildDone c) (buildNumber c) e
 
   wide-is : buildOut c .wide ≡ builtWide c
   unfolding buildDone
@@ -126,14 +135,14 @@ module _ (c : BuildCall) (e : buildNumber c ≡ 0) where
         (pass 5 _ _ (p .alpha)
         (pass 8 _ _
         (neither-or (badTable (c .n) width (buildOut c .wide)) (badLength (c .n) (c .params .degree) closed)
-        (kept-accepted (c .n) width (buildOut c .wide) low (build-keeps-rows c e .0)) (right-length (c .n) (c .params .degree) closed size))
-        (pass 10 _ _ (not-short (c .n) words floats r) refl)))))
+        (table-passes (c .n) width (buildOut c .wide) low (build-keeps-rows c e .0)) (length-passes (c .n) (c .params .degree) closed size))
+        (pass 10 _ _ (room-passes (c .n) words floats (r .words-enough) (r .floats-enough)) refl)))))
 
     closing-leaves : closeOut (closingCall c (buildOut c .wide) closed words floats) .closed ≡ buildOut c .closed
     unfolding closeOut closeDone buildDone
     closing-leaves =
         let d = closingCall c (buildOut c .wide) closed words floats in
-        ap (λ (o : CloseOut). o .closed) (success (closeNumber d) (closeKept d) (closeDone d) closing-done) ∙ ap (close g) wide-is
+        ap (λ (o : CloseOut). o .closed) (by-success (closeKept d) (closeDone d) (closeNumber d) closing-done) ∙ ap (close g) wide-is
         ∙ sym (ap (λ (o : BuildOut). o .closed) whole)
 
     closing-whole : AlikeBeyond (c .n) words (c .words) floats (c .floats)
@@ -142,7 +151,7 @@ module _ (c : BuildCall) (e : buildNumber c ≡ 0) where
     unfolding closeOut closeDone buildDone cleared
     closing-whole a =
         let d = closingCall c (buildOut c .wide) closed words floats in
-        success (closeNumber d) (closeKept d) (closeDone d) closing-done
+        by-success (closeKept d) (closeDone d) (closeNumber d) closing-done
         ∙ (λ i. record {
           answer = done;
           closed = close g (wide-is i);
@@ -161,7 +170,7 @@ module _ (c : BuildCall) (e : buildNumber c ≡ 0) where
             let opened = openOut (openingCall c wide) .wide in
             subst (λ (t : List ℕ). Runs c (c .order) (c .seeds) opened t)
             (ap (batches g (c .start) (c .params .extra) (length (c .order)) (c .order) (c .seeds)) (opening-leaves wide size) ∙ sym wide-is)
-            (runs-from (length (c .order)) (c .order) (c .seeds) opened (omega arith) (build-passes c e .stretch)
+            (runs-from (length (c .order)) (c .order) (c .seeds) opened (omega arith) ordered
             (open-keeps-rows (openingCall c wide) (opening-done wide size)));
         closes = closing-done;
         closed-is = closing-leaves;
@@ -174,7 +183,7 @@ pub batch-leaves-room : (b : BatchCall) → batchNumber b ≡ 0
     → Room (b .n) (batchOut b .words) (batchOut b .floats) × AlikeBeyond (b .n) (batchOut b .words) (b .words) (batchOut b .floats) (b .floats)
 unfolding batchOut batchDone
 batch-leaves-room b z =
-    rw (success (batchNumber b) (batchKept b) (batchDone b) z) (
+    rw (by-success (batchKept b) (batchDone b) (batchNumber b) z) (
       record { words-enough = cleared-long 0 (buildWords (b .n)) (b .words); floats-enough = cleared-long nought (buildFloats (b .n)) (b .floats) },
       record { words-beyond = cleared-beyond 0 (buildWords (b .n)) (b .words); floats-beyond = cleared-beyond nought (buildFloats (b .n)) (b .floats) },
     )

@@ -48,8 +48,8 @@ closingCall c wide closed words floats =
 
 -- ---- the runs
 
--- With `order` and `seeds` still to come and the table `wide` so far, batch calls lead to the table `last`. Whatever scratch of the stated room each is lent, as
--- the call before left it or another: it is done, and the next takes the table as it leaves it.
+-- With `order` and `seeds` still to come and the table `wide` so far, batch calls lead to the table `last`. Whatever scratch of the stated room each is lent,
+-- as the call before left it or another: it is done, and the next takes the table as it leaves it.
 pub data Runs (c : BuildCall) : List ℕ → List ℕ → List ℕ → List ℕ → Type 0 where
   all-run : {seeds wide : List ℕ} → Runs c [] seeds wide wide
   next-run : {order seeds wide last : List ℕ} → 0 < length order

@@ -22,13 +22,14 @@ use Rattle.definition.specs.Outcome.{SearchOut, SearchMeets, searchOut, searchK
 use Rattle.definition.specs.Outcome.{RecordsOut, RecordsMeets, recordsOut, recordsKept, recordsDone}
 use Rattle.whole.specs.Whole.{nought-whole}
 use Rattle.laws.specs.Truth.{decide}
-use Rattle.laws.specs.Members.{mem-length}
+use Rattle.laws.specs.Members.{mem-length, mem-at}
 use Rattle.laws.specs.Backwards.{map-take}
 use Rattle.laws.specs.Writing.{over-front}
-use Rattle.laws.specs.Places.{place-in, places-ordered}
+use Rattle.laws.specs.Places.{places-ordered}
 use Rattle.laws.specs.Items.{nearer-is}
-use Rattle.promises.specs.Tells.{from-start, SearchTells, Excludes}
-use Rattle.promises.specs.Accepted.{SearchAccepted, search-accepted, records-accepted, success, said-zero}
+use Rattle.theory.specs.search.Tells.{from-start, SearchTells, Excludes}
+use Rattle.accepted.specs.Outcomes.{by-success, said-zero}
+use Rattle.accepted.specs.Search.{SearchAccepted, search-accepted, records-accepted}
 use Rattle.promises.specs.Outcomes.{search-is, records-is}
 use Rattle.promises.specs.Searching.{rowsOf, distanceTo, lastDistance, search-tells, search-excludes, search-answers, search-order}
 
@@ -66,7 +67,7 @@ module _ (c : SearchCall) (a : SearchAccepted c) (ids : List ℕ) (dists : List 
   own-at i h =
       let x = getD (found c) i nobody in
       let e = id-at i h in
-      let t = search-answers c a x (place-in nobody (found c) i (omega arith)) in
+      let t = search-answers c a x (mem-at nobody (found c) i (omega arith)) in
       (t .0 ∙ ap (distanceTo c) (sym e), subst (λ (u : ℕ). u < c .n) (sym e) (t .1))
 
   ordered : (i j : ℕ) → i < j → j < count
@@ -126,9 +127,9 @@ pub search-held : (c : SearchCall) (o : SearchOut) → SearchMeets c o → o .an
 unfolding searchOut searchKept refused answer
 search-held c o m accepted =
     let is = search-is m in
-    let passed = said-zero (λ (p : SearchOut). p .answer .number) (searchNumber c) (searchKept c) (searchDone c) refl
+    let passed = said-zero (searchKept c) (searchDone c) (λ (p : SearchOut). p .answer .number) (searchNumber c) refl
     (ap (λ (p : SearchOut). p .answer .number) (sym is) ∙ accepted) in
-    subst (λ (p : SearchOut). Held c (p .answer .count) (p .ids) (p .dists)) (sym (is ∙ success (searchNumber c) (searchKept c) (searchDone c) passed))
+    subst (λ (p : SearchOut). Held c (p .answer .count) (p .ids) (p .dists)) (sym (is ∙ by-success (searchKept c) (searchDone c) (searchNumber c) passed))
     (done-held c (search-accepted c passed))
 
 -- ---- with a run of records beside the two outputs: the outputs hold them, and the run holds them once more, by its ids and its distances
@@ -163,7 +164,7 @@ pub records-held : (c : SearchCall) (rs : List Candidate) (o : RecordsOut) → R
 unfolding recordsOut recordsKept refused answer
 records-held c rs o m accepted =
     let is = records-is m in
-    let passed = said-zero (λ (p : RecordsOut). p .plain .answer .number) (recordsNumber c rs) (recordsKept c rs) (recordsDone c rs) refl
+    let passed = said-zero (recordsKept c rs) (recordsDone c rs) (λ (p : RecordsOut). p .plain .answer .number) (recordsNumber c rs) refl
     (ap (λ (p : RecordsOut). p .plain .answer .number) (sym is) ∙ accepted) in
-    subst (λ (p : RecordsOut). RecordsHeld c p) (sym (is ∙ success (recordsNumber c rs) (recordsKept c rs) (recordsDone c rs) passed))
-    (done-run c rs (records-accepted c rs passed))
+    subst (λ (p : RecordsOut). RecordsHeld c p) (sym (is ∙ by-success (recordsKept c rs) (recordsDone c rs) (recordsNumber c rs) passed))
+    (done-run c rs (records-accepted c rs passed .0))

@@ -4,32 +4,35 @@
 -- "unaffected rows keep their words".
 use Prim.Native.Nat.{ℕ, zero, suc, _*_, _<_}
 use mathlib.Core.Path.{_≡_, refl, sym, ap, ap₂, _∙_, subst}
-use mathlib.Core.Logic.{_≢_, inl, inr}
-use mathlib.Core.Bool.{false, not, _||_}
-use mathlib.Core.List.{List, [], _∷_, map, List·Memᴰ as Mem, List·Memᴰ·head as here, List·Memᴰ·tail as there, List·Memᴰ·not-nil as not-nil}
-use mathlib.Core.List.{Memᴰ·of-map as of-map}
-use borrow.Author.Tests.{eq-eqb, eqb-false, lt-ltb}
-use lib.Dec.{ltb, eqb}
+use mathlib.Core.Logic.{_≢_}
+use mathlib.Core.Bool.{false}
+use mathlib.Core.List.{List, [], List·Memᴰ as Mem}
 use lib.ListN.{length}
-use Rattle.definition.specs.Lists.{each, isIn, keep, groups, cleared}
-use Rattle.definition.specs.Tables.{pad, row, buildRule, searchRule}
+use Rattle.definition.specs.Lists.{groups, cleared}
+use Rattle.definition.specs.Tables.{row}
 use Rattle.definition.specs.declared.Candidate.{Candidate}
 use Rattle.definition.specs.Floats.{nought}
 use Rattle.definition.specs.Slack.{slack}
-use Rattle.definition.specs.Batch.{Setting, Listed, freshOf, freshRows, naming, isListed, affected, wideRow, mergedRow, merged, batch}
+use Rattle.definition.specs.Batch.{Listed, freshRows, affected, wideRow, mergedRow, batch}
 use Rattle.definition.specs.Build.{open′, built}
 use Rattle.definition.specs.Refusals.{BatchCall, OpenCall, CloseCall, BuildCall, SearchCall, batchNumber, openNumber, closeNumber, buildNumber, searchNumber}
 use Rattle.definition.specs.Refusals.{recordsNumber, badLength, badTable, badSearched, buildWords, buildFloats}
 use Rattle.definition.specs.Outcome.{OpenOut, CloseOut, BuildOut, byNumber, settingOf, batchKept, batchDone, batchOut, openKept, openDone, openOut, closeKept}
 use Rattle.definition.specs.Outcome.{done, closeDone, closeOut, buildKept, builtWide, buildDone, buildOut}
-use Rattle.laws.specs.Truth.{either-or, neither-or, decide}
-use Rattle.laws.specs.Members.{mem-each, cons-elim, keep-none, none-isIn}
-use Rattle.laws.specs.Tables.{tableOf-row}
-use Rattle.promises.specs.Kept.{TableKept, AfterBatches, none-yet, one-more}
-use Rattle.promises.specs.Rule.{kept-rule, kept-entry}
-use Rattle.promises.specs.Accepted.{success, open-accepted, batch-accepted, close-accepted, build-accepted}
-use Rattle.promises.specs.Numbers.{batch-not-8, close-not-8, search-not-8}
-use Rattle.promises.specs.build.Batches.{opened-kept, batch-kept, batch-row, closed-kept, batches-kept}
+use Rattle.laws.specs.Truth.{neither-or}
+use Rattle.theory.specs.Kept.{TableKept}
+use Rattle.theory.specs.Rule.{ruled-kept}
+use Rattle.theory.specs.build.Batches.{opened-kept, batch-kept, batch-row, closed-kept, batches-kept}
+use Rattle.theory.specs.build.Unaffected.{batch-none, fresh-node, affected-none}
+use Rattle.accepted.specs.Outcomes.{by-success}
+use Rattle.accepted.specs.Checks.{count-low, length-passes, table-passes, searched-kept}
+use Rattle.accepted.specs.Build.{open-accepted, batch-accepted, close-accepted, build-accepted}
+use Rattle.accepted.specs.Numbers.{batch-not-8, close-not-8, search-not-8}
+
+-- the wide tables that batch calls with this n and degree lead to, refused calls included; all else may differ from call to call
+pub data AfterBatches (n degree : ℕ) (opened : List ℕ) : List ℕ → Type 0 where
+  none-yet : AfterBatches n degree opened opened
+  one-more : (c : BatchCall) → c .n ≡ n → c .params .degree ≡ degree → AfterBatches n degree opened (c .wide) → AfterBatches n degree opened (batchOut c .wide)
 
 -- ---- open
 
@@ -37,8 +40,8 @@ pub open-keeps-rows : (c : OpenCall) → openNumber c ≡ 0 → TableKept (c .n)
 unfolding openOut openDone
 open-keeps-rows c e =
     let a = open-accepted c e in
-    subst (λ (r : OpenOut). TableKept (c .n) (slack (c .degree)) (r .wide)) (sym (success (openNumber c) (openKept c) (openDone c) e))
-    (opened-kept (c .n) (c .degree) (c .opening) (a .low) (a .opening))
+    subst (λ (r : OpenOut). TableKept (c .n) (slack (c .degree)) (r .wide)) (sym (by-success (openKept c) (openDone c) (openNumber c) e))
+    (opened-kept (c .n) (c .degree) (c .opening) (count-low (a .nodes)) (ruled-kept (a .opening)))
 
 -- ---- batches, accepted or refused
 
@@ -46,8 +49,8 @@ batch-done : (c : BatchCall) → batchNumber c ≡ 0 → TableKept (c .n) (slack
 unfolding batchDone settingOf
 batch-done c e =
     let a = batch-accepted c e in
-    batch-kept (settingOf (c .n) (c .dim) (c .vectors) (c .params)) (c .wide) (a .alpha) (a .low) (a .wide) (c .start) (c .params .extra) (c .nodes)
-    (c .seeds) (a .starts) (a .nodes) (a .seeds)
+    batch-kept (settingOf (c .n) (c .dim) (c .vectors) (c .params)) (c .wide) (a .alpha-low) (count-low (a .entries .nodes)) (ruled-kept (a .wide)) (c .start)
+    (c .params .extra) (c .nodes) (c .seeds) (a .start-in) (a .nodes .below) (a .seeds .below)
 
 pub batch-keeps-rows : (c : BatchCall) → TableKept (c .n) (slack (c .params .degree)) (c .wide)
     → TableKept (c .n) (slack (c .params .degree)) (batchOut c .wide)
@@ -75,8 +78,8 @@ pub closing-keeps-rows : (c : CloseCall) → closeNumber c ≡ 0 → TableKept (
 unfolding closeOut closeDone settingOf
 closing-keeps-rows c e =
     let a = close-accepted c e in
-    subst (λ (r : CloseOut). TableKept (c .n) (c .params .degree) (r .closed)) (sym (success (closeNumber c) (closeKept c) (closeDone c) e))
-    (closed-kept (settingOf (c .n) (c .dim) (c .vectors) (c .params)) (c .wide) (a .alpha) (a .low) (a .wide))
+    subst (λ (r : CloseOut). TableKept (c .n) (c .params .degree) (r .closed)) (sym (by-success (closeKept c) (closeDone c) (closeNumber c) e))
+    (closed-kept (settingOf (c .n) (c .dim) (c .vectors) (c .params)) (c .wide) (a .alpha-low) (count-low (a .entries .nodes)) (ruled-kept (a .wide)))
 
 -- ---- whole build
 
@@ -86,38 +89,23 @@ unfolding buildOut buildDone builtWide built settingOf
 build-keeps-rows c e =
     let a = build-accepted c e in
     let g = settingOf (c .n) (c .dim) (c .vectors) (c .params) in
-    let wide = batches-kept g (a .alpha) (a .low) (c .start) (c .params .extra) (length (c .order)) (c .order) (c .seeds)
-    (open′ (c .n) (c .params .degree) (c .opening)) (a .starts)
-    (a .order) (a .seeds) (opened-kept (c .n) (c .params .degree) (c .opening) (a .low) (a .opening)) in
+    let low = count-low (a .entries .nodes) in
+    let wide = batches-kept g (a .alpha-low) low (c .start) (c .params .extra) (length (c .order)) (c .order) (c .seeds)
+    (open′ (c .n) (c .params .degree) (c .opening)) (a .start-in) (a .order .below) (a .seeds .below)
+    (opened-kept (c .n) (c .params .degree) (c .opening) low (ruled-kept (a .opening))) in
     subst (λ (r : BuildOut). TableKept (c .n) (slack (c .params .degree)) (r .wide) × TableKept (c .n) (c .params .degree) (r .closed))
-    (sym (success (buildNumber c) (buildKept c) (buildDone c) e))
-    (wide, closed-kept g (builtWide c) (a .alpha) (a .low) wide)
+    (sym (by-success (buildKept c) (buildDone c) (buildNumber c) e))
+    (wide, closed-kept g (builtWide c) (a .alpha-low) low wide)
 
 -- ---- 8 does not come further on
-
-pub right-length : (n width : ℕ) (table : List ℕ) → length table ≡ n * width → badLength n width table ≡ false
-unfolding badLength
-right-length n width table e = ap not (eq-eqb (length table) (n * width) e)
-
-pub kept-accepted : (n width : ℕ) (table : List ℕ) → n < pad → TableKept n width table → badTable n width table ≡ false
-unfolding badTable
-kept-accepted n width table low k =
-    neither-or (badLength n width table) (not (buildRule n width table)) (right-length n width table (k .size)) (ap not (kept-rule n width table low k))
-
-kept-searched : (n width : ℕ) (table : List ℕ) → TableKept n width table → badSearched n width table ≡ false
-unfolding badSearched searchRule
-kept-searched n width table k =
-    neither-or (badLength n width table) (not (each (λ w. eqb w pad || ltb w n) table)) (right-length n width table (k .size))
-    (ap not
-    (mem-each (λ w. eqb w pad || ltb w n) table
-    (λ w m. either-or (eqb w pad) (ltb w n) (decide (eqb w pad) (λ t. inl t) (λ f. inr (lt-ltb w n (kept-entry n width table k w m (eqb-false w pad f))))))))
 
 -- a wide table that open and batches led to
 after-accepted : (o : OpenCall) → openNumber o ≡ 0 → (n degree : ℕ) (table : List ℕ) → n ≡ o .n → degree ≡ o .degree
     → AfterBatches (o .n) (o .degree) (openOut o .wide) table
     → badTable n (slack degree) table ≡ false
 after-accepted o e n degree table p q a =
-    ap₂ (λ (m d : ℕ). badTable m (slack d) table) p q ∙ kept-accepted (o .n) (slack (o .degree)) table (open-accepted o e .low) (batches-keep-rows o e table a)
+    ap₂ (λ (m d : ℕ). badTable m (slack d) table) p q
+    ∙ table-passes (o .n) (slack (o .degree)) table (count-low (open-accepted o e .nodes)) (batches-keep-rows o e table a)
 
 pub batches-go-on : (o : OpenCall) → openNumber o ≡ 0 → (c : BatchCall) → c .n ≡ o .n → c .params .degree ≡ o .degree
     → AfterBatches (o .n) (o .degree) (openOut o .wide) (c .wide) → batchNumber c ≢ 8
@@ -128,12 +116,12 @@ pub batches-close : (o : OpenCall) → openNumber o ≡ 0 → (c : CloseCall) �
 batches-close o e c p q a size =
     close-not-8 c
     (neither-or (badTable (c .n) (slack (c .params .degree)) (c .wide)) (badLength (c .n) (c .params .degree) (c .closed))
-    (after-accepted o e (c .n) (c .params .degree) (c .wide) p q a) (right-length (c .n) (c .params .degree) (c .closed) size))
+    (after-accepted o e (c .n) (c .params .degree) (c .wide) p q a) (length-passes (c .n) (c .params .degree) (c .closed) size))
 
 kept-is-searched : (n degree : ℕ) (table : List ℕ) → TableKept n degree table → (c : SearchCall) → c .n ≡ n → c .degree ≡ degree → c .table ≡ table
     → (searchNumber c ≢ 8) × ((records : List Candidate) → recordsNumber c records ≢ 8)
 kept-is-searched n degree table k c p q t =
-    search-not-8 c (ap₂ (λ (m d : ℕ). badSearched m d (c .table)) p q ∙ ap (badSearched n degree) t ∙ kept-searched n degree table k)
+    search-not-8 c (ap₂ (λ (m d : ℕ). badSearched m d (c .table)) p q ∙ ap (badSearched n degree) t ∙ searched-kept n degree table k)
 
 pub closed-is-searched : (b : CloseCall) → closeNumber b ≡ 0 → (c : SearchCall) → c .n ≡ b .n → c .degree ≡ b .params .degree → c .table ≡ closeOut b .closed
     → (searchNumber c ≢ 8) × ((records : List Candidate) → recordsNumber c records ≢ 8)
@@ -145,17 +133,13 @@ build-is-searched b e = kept-is-searched (b .n) (b .params .degree) (buildOut b 
 
 -- ---- a batch of no nodes
 
-no-nodes : (g : Setting) (start extra : ℕ) (seeds wide : List ℕ) → length wide ≡ g .n * slack (g .degree) → batch g start extra [] seeds wide ≡ wide
-unfolding batch freshRows merged mergedRow affected isListed naming wideRow isIn keep groups
-no-nodes g start extra seeds wide h = tableOf-row (g .n) (slack (g .degree)) wide h
-
--- so an accepted one leaves the table
+-- an accepted one leaves the table
 table-left : (c : BatchCall) → batchNumber c ≡ 0 → c .nodes ≡ [] → batchDone c .wide ≡ c .wide
 unfolding batchDone settingOf
 table-left c e none =
     let g = settingOf (c .n) (c .dim) (c .vectors) (c .params) in
     ap (λ (us : List ℕ). batch g (c .start) (c .params .extra) us (c .seeds) (c .wide)) none
-    ∙ no-nodes g (c .start) (c .params .extra) (c .seeds) (c .wide) (batch-accepted c e .wide .size)
+    ∙ batch-none g (c .start) (c .params .extra) (c .seeds) (c .wide) (batch-accepted c e .wide .size)
 
 -- accepted or refused
 pub empty-batch : (c : BatchCall) → c .nodes ≡ [] → batchOut c .wide ≡ c .wide
@@ -172,7 +156,7 @@ pub batch-empty : (c : BatchCall) → batchNumber c ≡ 0 → c .nodes ≡ []
     ≡ record { answer = done; wide = c .wide; words = cleared 0 (buildWords (c .n)) (c .words); floats = cleared nought (buildFloats (c .n)) (c .floats) }
 unfolding batchOut batchDone
 batch-empty c e none =
-    success (batchNumber c) (batchKept c) (batchDone c) e
+    by-success (batchKept c) (batchDone c) (batchNumber c) e
     ∙ (λ i. record {
       answer = done;
       wide = table-left c e none i;
@@ -193,7 +177,8 @@ unfolding batchDone settingOf listedBy mergedRow wideRow
 row-left c e i h free =
     let a = batch-accepted c e in
     let g = settingOf (c .n) (c .dim) (c .vectors) (c .params) in
-    batch-row g (c .wide) (a .alpha) (a .low) (a .wide) (c .start) (c .params .extra) (c .nodes) (c .seeds) (a .starts) (a .nodes) (a .seeds) i h
+    batch-row g (c .wide) (a .alpha-low) (count-low (a .entries .nodes)) (ruled-kept (a .wide)) (c .start) (c .params .extra) (c .nodes) (c .seeds)
+    (a .start-in) (a .nodes .below) (a .seeds .below) i h
     ∙ rw free refl
 
 -- accepted or refused
@@ -209,22 +194,6 @@ batch-unaffected c i h free = go (batchNumber c) refl
 
 -- in other words: the row of an entry that is not listed and that no fresh row names
 
-fresh-node : (g : Setting) (wide : List ℕ) (start : ℕ) (us : List ℕ) (gs : List (List ℕ)) (l : Listed) → Mem l (freshRows g wide start us gs)
-    → Mem (l .node) us
-unfolding freshRows freshOf
-fresh-node g wide start [] gs l m = absurd (not-nil m)
-fresh-node g wide start (u ∷ us) [] l m = absurd (not-nil m)
-fresh-node g wide start (u ∷ us) (s ∷ gs) l m =
-    cons-elim (λ k. Mem (k .node) (u ∷ us)) (freshOf g wide start u s) (freshRows g wide start us gs) (here refl)
-    (λ k h. there (fresh-node g wide start us gs k h)) l m
-
-not-affected : (ls : List Listed) (i : ℕ) → ((l : Listed) → Mem l ls → (l .node ≢ i) × ¬ Mem i (l .fresh)) → affected ls i ≡ false
-unfolding affected isListed naming
-not-affected ls i f =
-    neither-or (isIn i (map (λ l. l .node) ls)) (not (eqb (length (map (λ l. l .node) (keep (λ l. isIn i (l .fresh)) ls))) 0))
-    (none-isIn i (map (λ l. l .node) ls) (λ m. let r = of-map (λ (l : Listed). l .node) ls m in f (r .0) (r .1) .0 (r .2)))
-    (rw (keep-none (λ (l : Listed). isIn i (l .fresh)) ls (λ l m. none-isIn i (l .fresh) (f l m .1))) refl)
-
 listed-node : (c : BatchCall) (l : Listed) → Mem l (listedBy c) → Mem (l .node) (c .nodes)
 unfolding listedBy
 listed-node c =
@@ -234,4 +203,4 @@ pub batch-unnamed : (c : BatchCall) (i : ℕ) → i < c .n → ¬ Mem i (c .node
     → row (slack (c .params .degree)) (batchOut c .wide) i ≡ row (slack (c .params .degree)) (c .wide) i
 batch-unnamed c i h unlisted unnamed =
     batch-unaffected c i h
-    (not-affected (listedBy c) i (λ l m. (λ e. unlisted (subst (λ (u : ℕ). Mem u (c .nodes)) e (listed-node c l m)), unnamed l m)))
+    (affected-none (listedBy c) i (λ l m. (λ e. unlisted (subst (λ (u : ℕ). Mem u (c .nodes)) e (listed-node c l m)), unnamed l m)))

@@ -1,33 +1,31 @@
 -- Demand 3, second sentence: what the answers of a search tell, and what they exclude. For every accepted search, with a run of records or not, and every
--- accepted text of `seek` (Accepted says which those are), for every k: as many answers are asked for as min(k, max(beam, 1)).
+-- accepted text of `seek` (crate accepted says what those have), for every k: as many answers are asked for as min(k, max(beam, 1)).
 -- "Answers by distance, then id, cut to k." Each has its own distance and is below n; they stand in strict order; what is cut off comes after all of them.
 use Prim.Native.Nat.{ℕ, _-_, _≤_, _<_, max, min}
 use native.Mathlib.Omega.{arith}
 use mathlib.Core.Path.{_≡_, refl, sym, subst}
-use mathlib.Core.Logic.{_≢_, _⊎_, inl, inr}
-use mathlib.Core.Bool.{true, _||_}
+use mathlib.Core.Logic.{_⊎_, inl, inr}
+use mathlib.Core.Bool.{true}
 use mathlib.Core.List.{List, _++_, Pairwise, List·Memᴰ as Mem, List·Memᴰ·append-cases as split}
-use borrow.Author.Tests.{ltb-true, eqb-true}
-use lib.Dec.{ltb, eqb}
 use lib.ListN.{length, getD, take, drop, take-append-drop}
 use Rattle.definition.specs.Lists.{sort}
-use Rattle.definition.specs.Tables.{pad, row, searchRule}
+use Rattle.definition.specs.Tables.{row}
 use Rattle.definition.specs.Metric.{fromQuery}
 use Rattle.definition.specs.Beam.{Item, nobody, best}
 use Rattle.definition.specs.Greedy.{State, greedy}
 use Rattle.definition.specs.Search.{listedFirst, ranked, searched, answers}
 use Rattle.definition.specs.Refusals.{SearchCall, searchNumber}
 use Rattle.definition.specs.Outcome.{found, foundIds}
-use Rattle.laws.specs.Truth.{or-either}
-use Rattle.laws.specs.Members.{each-mem, take-mem}
+use Rattle.laws.specs.Members.{take-mem}
 use Rattle.laws.specs.Sorting.{Ordered, sort-mem, mem-sort, take-ordered, ordered-across, ordered-pairwise}
 use Rattle.laws.specs.Tables.{row-mem}
 use Rattle.laws.specs.Items.{idsOf}
-use Rattle.promises.specs.Tells.{SearchTells, Excludes}
-use Rattle.promises.specs.Accepted.{SearchAccepted, search-accepted}
-use Rattle.promises.specs.search.Ground.{Ground}
-use Rattle.promises.specs.search.Stopped.{listed, tells, excludes}
-use Rattle.promises.specs.Ends.{greedy-done, greedy-keeps}
+use Rattle.theory.specs.Rule.{searchRule-mem}
+use Rattle.theory.specs.search.Tells.{SearchTells, Excludes}
+use Rattle.theory.specs.search.Ground.{Ground}
+use Rattle.theory.specs.search.Stopped.{stopped-ordered, stopped-tells, stopped-excludes}
+use Rattle.theory.specs.search.Ends.{greedy-done, greedy-keeps}
+use Rattle.accepted.specs.Search.{SearchAccepted, search-accepted}
 
 -- the rows of a call, and the distance from its query to an entry
 abbrev pub rowsOf : SearchCall → ℕ → List ℕ
@@ -40,16 +38,6 @@ distanceTo c = fromQuery (c .dim) (c .vectors) (c .query)
 abbrev pub lastDistance : SearchCall → ℕ
 lastDistance c = getD (found c) (length (found c) - 1) nobody .dist
 
--- the rows of a table under the search rule
-pub row-good : (n degree : ℕ) (table : List ℕ) → searchRule n table ≡ true → (i w : ℕ) → i < n → Mem w (row degree table i) → w ≢ pad → w < n
-unfolding searchRule
-row-good n degree table rule i w below m no-pad =
-    go (or-either (eqb w pad) (ltb w n) (each-mem (λ u. eqb u pad || ltb u n) table rule w (row-mem degree table i m)))
-  where
-    go : (eqb w pad ≡ true) ⊎ (ltb w n ≡ true) → w < n
-    go (inl e) = absurd (no-pad (eqb-true w pad e))
-    go (inr t) = ltb-true w n t
-
 module _ (c : SearchCall) (a : SearchAccepted c) where
   -- what the call's search goes by
   abbrev pub ground : Ground
@@ -60,8 +48,8 @@ module _ (c : SearchCall) (a : SearchAccepted c) where
         n = c .n;
         beam = max (c .beam) 1;
         start = c .start;
-        starts = a .starts;
-        good = row-good (c .n) (c .degree) (c .table) (a .ruled);
+        starts = a .start-in;
+        good = λ i w below m. searchRule-mem (c .n) (c .table) (a .ruled) w (row-mem (c .degree) (c .table) i m);
       }
 
   open Ground ground using (d, rows, beam)
@@ -78,12 +66,12 @@ module _ (c : SearchCall) (a : SearchAccepted c) where
   unfolding foundIds best
   search-tells =
       subst (λ (l : List Item). SearchTells rows d (c .start) (min (c .k) beam) (idsOf l) (best l .dist)) (sym found-is)
-      (tells ground end (greedy-done ground) (c .k))
+      (stopped-tells ground end (greedy-done ground) (c .k))
 
   pub search-excludes : Excludes (row (c .degree) (c .table)) (fromQuery (c .dim) (c .vectors) (c .query)) (c .start) (foundIds c) (lastDistance c)
   unfolding foundIds best
   search-excludes =
-      subst (λ (l : List Item). Excludes rows d (c .start) (idsOf l) (best l .dist)) (sym found-is) (excludes ground end (greedy-done ground) (c .k))
+      subst (λ (l : List Item). Excludes rows d (c .start) (idsOf l) (best l .dist)) (sym found-is) (stopped-excludes ground end (greedy-done ground) (c .k))
 
   pub search-answers : (x : Item) → Mem x (found c) → (x .dist ≡ fromQuery (c .dim) (c .vectors) (c .query) (x .id)) × (x .id < c .n)
   search-answers x m =
@@ -95,7 +83,7 @@ module _ (c : SearchCall) (a : SearchAccepted c) where
   pub search-order : Ordered listedFirst (found c)
   search-order =
       subst (λ (l : List Item). Ordered listedFirst l) (sym found-is)
-      (take-ordered (c .k) (sort listedFirst (end .work)) (listed ground end (greedy-done ground)))
+      (take-ordered (c .k) (sort listedFirst (end .work)) (stopped-ordered ground end (greedy-done ground)))
 
   pub search-ordered : Pairwise (λ (x y : Item). listedFirst x y ≡ true) (found c)
   search-ordered = ordered-pairwise search-order
@@ -118,7 +106,7 @@ module _ (c : SearchCall) (a : SearchAccepted c) where
       go (inl m) = absurd (out (subst (λ (l : List Item). Mem x l) (sym found-is) m))
       go (inr m) =
           ordered-across (take (c .k) sorted) (drop (c .k) sorted)
-          (subst (λ (l : List Item). Ordered listedFirst l) (sym parts) (listed ground end (greedy-done ground))) y x
+          (subst (λ (l : List Item). Ordered listedFirst l) (sym parts) (stopped-ordered ground end (greedy-done ground))) y x
           (subst (λ (l : List Item). Mem y l) found-is answered) m
 
 -- where k is at least the beam, a beam of 0 read as 1, the beam's number is asked for

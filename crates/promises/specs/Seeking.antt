@@ -1,54 +1,34 @@
 -- The program `seek`: it lends room enough and takes a query of dim values, so that of the numbers that concern a search 10 and 11 never come from a text; and
 -- demand 3, second sentence, over what it prints, as it is read back.
-use Prim.Native.Nat.{ℕ, zero, suc, _+_, _-_, _*_, _≤_, _<_, max, min}
+use Prim.Native.Nat.{ℕ, zero, suc, _-_, _≤_, _<_, max, min}
 use native.Mathlib.Omega.{arith}
 use mathlib.Core.Path.{_≡_, refl, sym, ap, ap₂, _∙_, subst}
 use mathlib.Core.Logic.{_≢_}
-use mathlib.Core.Bool.{Bool, true, false, not, _&&_}
+use mathlib.Core.Bool.{Bool, true, false, not}
 use mathlib.Core.List.{List, [], _∷_, map, Pairwise, List·Memᴰ as Mem, List·Memᴰ·head as here}
-use borrow.Author.Tests.{eqb-true, eq-eqb, le-ltb, leb-true, not-false}
-use lib.Dec.{leb, ltb, eqb}
-use lib.ListN.{length, take, drop, getD, replicate, length-drop, length-replicate, length-map, List·getD-append}
-use lib.Seq.{length-take-le, append-snoc}
-use Rattle.definition.specs.Lists.{each, joined, isIn}
+use borrow.Author.Tests.{eq-eqb, leb-true, not-false}
+use lib.Dec.{leb, ltb}
+use lib.ListN.{length, getD, length-map, List·getD-append}
+use lib.Seq.{append-snoc}
+use Rattle.definition.specs.Lists.{joined, isIn}
 use Rattle.definition.specs.Beam.{Item, nobody}
 use Rattle.definition.specs.Search.{listedFirst}
-use Rattle.definition.specs.Refusals.{SearchCall, searchNumber, searchNumberAt, searchShort, short, _when_else_}
+use Rattle.definition.specs.Refusals.{SearchCall, searchNumber, searchNumberAt, _when_else_}
 use Rattle.definition.specs.Outcome.{found, foundIds, byNumber}
-use Rattle.definition.specs.Seek.{values, isNumber, isSample, isRowWord, partAt, theN, theDim, theDegree, theVectors, theRows, theQuery, smallEnough, shaped}
-use Rattle.definition.specs.Seek.{filled, wellFormed, seekCall, mostInput, malformed, seekNumber, isDigit, decimal, printRefused, printItem, printFound, seek}
-use Rattle.laws.specs.Truth.{and-both, or-neither, neither-or}
-use Rattle.laws.specs.Members.{each-mem, isIn-mem, isIn-none}
-use Rattle.laws.specs.Places.{place-in}
+use Rattle.definition.specs.Seek.{values, theDim, theVectors, theQuery}
+use Rattle.definition.specs.Seek.{wellFormed, seekCall, mostInput, malformed, seekNumber, isDigit, decimal, printRefused, printItem, printFound, seek}
+use Rattle.laws.specs.Truth.{and-both, or-neither}
+use Rattle.laws.specs.Members.{each-mem, mem-at, isIn-mem, isIn-none}
 use Rattle.laws.specs.Items.{idsOf}
-use Rattle.promises.specs.Metrics.{Bytes, query-most}
-use Rattle.promises.specs.Tells.{SearchTells, Excludes}
-use Rattle.promises.specs.Accepted.{passed, success, search-accepted, search-within, seek-accepted}
+use Rattle.theory.specs.Metric.{query-small}
+use Rattle.theory.specs.seek.Room.{seek-room}
+use Rattle.theory.specs.seek.Samples.{text-bytes, query-length}
+use Rattle.theory.specs.search.Tells.{SearchTells, Excludes}
+use Rattle.accepted.specs.Outcomes.{by-success}
+use Rattle.accepted.specs.Search.{SearchAccepted, seek-accepted}
 use Rattle.promises.specs.Searching.{rowsOf, distanceTo, lastDistance, search-tells, search-excludes, search-answers, search-ordered}
-use Rattle.promises.specs.Decimals.{decimal-reads-back}
-use Rattle.promises.specs.Printing.{countRead, itemsRead, Small, items-read}
-
-room-enough : {A : Type 0} (k : ℕ) (x : A) → short k (replicate k x) ≡ false
-unfolding short
-room-enough k x = le-ltb (length (replicate k x)) k (omega (arith, length-replicate k x))
-
-never-short : (vs : List ℕ) → searchShort (seekCall vs) ≡ false
-unfolding searchShort seekCall
-never-short vs =
-    neither-or _ _ (room-enough _ _) (neither-or _ _ (room-enough _ _) (neither-or _ _ (room-enough _ _) (room-enough _ _)))
-
-query-length : (vs : List ℕ) → wellFormed vs ≡ true → length (theQuery vs) ≡ theDim vs
-unfolding wellFormed shaped theQuery partAt
-query-length vs t =
-    let a = and-both (shaped vs) (filled vs) t .0 in
-    let size = theN vs * theDim vs in
-    let rows = theN vs * theDegree vs in
-    let words = eqb (length vs) (6 + size + rows + theDim vs) in
-    let b = and-both (leb 6 (length vs)) (each isNumber (take 6 vs) && (smallEnough vs && words)) a .1 in
-    let d = and-both (each isNumber (take 6 vs)) (smallEnough vs && words) b .1 in
-    let e = eqb-true (length vs) (6 + size + rows + theDim vs) (and-both (smallEnough vs) words d .1) in
-    let l = length-drop (6 + size + rows) vs in
-    length-take-le (theDim vs) (drop (6 + size + rows) vs) (omega arith)
+use Rattle.theory.specs.seek.Decimals.{decimal-reads-back}
+use Rattle.theory.specs.seek.Printing.{countRead, itemsRead, Small, items-read}
 
 formed : (text : List ℕ) → malformed text ≡ false → wellFormed (values text) ≡ true
 unfolding malformed
@@ -74,7 +54,7 @@ searched-numbers : (vs : List ℕ) → wellFormed vs ≡ true → Mem (searchNum
 unfolding searchNumber searchNumberAt seekCall seekNumbers isIn
 searched-numbers vs t =
     may 1 _ refl (may 2 _ refl (may 3 _ refl (may 4 _ refl (may 6 _ refl (may 8 _ refl
-    (cannot 10 (never-short vs) (cannot 11 (ap not (eq-eqb _ _ (query-length vs t))) (here refl))))))))
+    (cannot 10 (seek-room vs) (cannot 11 (ap not (eq-eqb _ _ (query-length vs t))) (here refl))))))))
 
 pub seek-numbers : (text : List ℕ) → Mem (seekNumber text) seekNumbers
 unfolding seekNumber seekNumbers isIn _when_else_
@@ -102,10 +82,6 @@ unrefused text n = go (seekNumber text) n
     go zero h = refl
     go (suc k) h = absurd (h refl)
 
-sample-bytes : (xs : List ℕ) → each isSample xs ≡ true → Bytes xs
-unfolding isSample
-sample-bytes xs t x m = let h = leb-true x 255 (each-mem isSample xs t x m) in omega arith
-
 ids-length : (l : List Item) → length (idsOf l) ≡ length l
 ids-length l = length-map l (λ (x : Item). x .id)
 
@@ -114,40 +90,34 @@ module _ (text : List ℕ) (z : seekNumber text ≡ 0) where
   call = seekCall (values text)
 
   well : wellFormed (values text) ≡ true
-  unfolding seekNumber
-  well = formed text (passed 12 (malformed text) (searchNumber (seekCall (values text))) z .0)
+  well = formed text (seek-accepted text z .0)
 
-  number : searchNumber call ≡ 0
-  unfolding seekNumber call
-  number = passed 12 (malformed text) (searchNumber (seekCall (values text))) z .1
+  accepted : SearchAccepted call
+  unfolding call
+  accepted = seek-accepted text z .1
 
   distance-most : (i : ℕ) → distanceTo call i ≤ 16646400
-  unfolding call seekCall wellFormed filled
+  unfolding call seekCall
   distance-most i =
       let vs = values text in
-      let samples = each isSample (theQuery vs) in
-      let f = and-both (shaped vs) (filled vs) well .1 in
-      let g = and-both (each isSample (theVectors vs)) (each isRowWord (theRows vs) && samples) f in
-      let q = and-both (each isRowWord (theRows vs)) samples (g .1) .1 in
-      let k = query-most (theDim vs) (theVectors vs) (theQuery vs) (sample-bytes (theVectors vs) (g .0)) (sample-bytes (theQuery vs) q) i in
-      let narrow = search-within call number .narrow in
-      omega (arith, k, narrow, query-length vs well)
+      let bytes = text-bytes vs well in
+      query-small (theDim vs) (theVectors vs) (theQuery vs) (omega (arith, accepted .dim-few, query-length vs well)) (bytes .0) (bytes .1) i
 
   small : (x : Item) → Mem x (found call) → Small x
   small x m =
-      let a = search-answers call (search-accepted call number) x m in
+      let a = search-answers call accepted x m in
       record {
-        id-small = omega (arith, a .1, search-within call number .few);
+        id-small = omega (arith, a .1, accepted .nodes);
         dist-small = omega (arith, a .0, distance-most (x .id));
       }
 
   few : length (found call) ≤ 256
   unfolding foundIds
-  few = omega (arith, search-tells call (search-accepted call number) .most, ids-length (found call), search-within call number .beam-most)
+  few = omega (arith, search-tells call accepted .most, ids-length (found call), accepted .beam-few)
 
   printed : seek text ≡ printFound (found call)
   unfolding seek call
-  printed = success (seekNumber text) (printRefused (seekNumber text)) (printFound (found (seekCall (values text)))) z
+  printed = by-success (printRefused (seekNumber text)) (printFound (found (seekCall (values text)))) (seekNumber text) z
 
   begins : getD (seek text) 0 0 ≢ 114
   unfolding printFound isDigit
@@ -157,7 +127,7 @@ module _ (text : List ℕ) (z : seekNumber text ≡ 0) where
       let p = decimal-reads-back (length (found call)) (omega (arith, few)) in
       let first : getD (seek text) 0 0 ≡ getD count 0 0 =
       ap (λ (l : List ℕ). getD l 0 0) (printed ∙ append-snoc count 10 lines) ∙ List·getD-append count (10 ∷ lines) 0 0 (p .some) in
-      let digit = each-mem isDigit count (p .digit) (getD count 0 0) (place-in 0 count 0 (p .some)) in
+      let digit = each-mem isDigit count (p .digit) (getD count 0 0) (mem-at 0 count 0 (p .some)) in
       let low = leb-true (getD count 0 0) 57 (and-both (leb 48 (getD count 0 0)) (leb (getD count 0 0) 57) digit .1) in
       omega arith
 
@@ -181,7 +151,7 @@ pub seek-held : (text : List ℕ) → seekNumber text ≡ 0 → SeekHeld (seekCa
 unfolding call foundIds
 seek-held text z =
     let c = seekCall (values text) in
-    let a = seek-accepted text z in
+    let a = seek-accepted text z .1 in
     let read = items-read (found c) (omega (arith, few text z)) (small text z) in
     let items : itemsRead (seek text) ≡ found c = ap itemsRead (printed text z) ∙ read .1 in
     let count : countRead (seek text) ≡ length (found c) = ap countRead (printed text z) ∙ read .0 in

@@ -1,25 +1,25 @@
 -- The candidates that `choose` leaves may be measured, and the row pruned from them is the definition's.
-use mathlib.Core.Path.{_≡_, sym, ap, ap₂, _∙_, subst}
+use mathlib.Core.Path.{_≡_, sym, ap, _∙_, subst}
 use mathlib.Core.Bool.{Bool, true, false, cond}
-use mathlib.Core.List.{List, [], _∷_, _++_}
-use Prim.Native.Nat.{ℕ, _+_, _-_, _*_, _≤_}
+use mathlib.Core.List.{List, [], _∷_}
+use Prim.Native.Nat.{ℕ, _-_, _≤_}
 use native.Mathlib.Omega.{arith}
 use lib.Ieee.{Float}
-use lib.ListN.{length, take, drop, length-drop}
-use lib.Seq.{length-take-le, drop-drop}
-use borrow.Rule.Slice.PartMut.{putMid}
+use lib.ListN.{length, take, drop}
+use lib.Seq.{length-take-le}
 use Rattle.definition.specs.Lists.{sort, isIn}
 use Rattle.definition.specs.Beam.{Item, nearer}
 use Rattle.definition.specs.Metric.{between}
 use Rattle.definition.specs.Prune.{unseen, cut, candidates, prunedFrom, prune}
-use Rattle.definition.specs.Tables.{padded}
 use Rattle.whole.specs.Whole.{IsWhole}
 use Rattle.metric.specs.Exact.{VectorIn}
-use Rattle.prune_items.specs.Items.{All, itemsOf}
-use Rattle.prune_items.specs.Held.{all-take, items-ids, ids-items}
+use Rattle.prune_items.specs.Items.{itemsOf}
+use Rattle.laws.specs.All.{All, all-take}
+use Rattle.prune_items.specs.Held.{items-ids, ids-items}
 use Rattle.prune_items.specs.Sorting.{all-sort}
 use Rattle.prune_pool.specs.Says.{Distinct, Pool, Chosen}
-use Rattle.prune.specs.Says.{Measurable, Written, Stretched}
+use Rattle.table.specs.Rows.{Written}
+use Rattle.prune.specs.Says.{Measurable}
 
 all-fresh : (P : Item → Type 0) (seen : List ℕ) (l : List Item) → All P l → All P (unseen seen l)
 unfolding unseen
@@ -62,23 +62,3 @@ module _ (dim : ℕ) (vectors ids : List ℕ) (dists : List Float) (node : ℕ) 
       → Written row k width (prune (between dim vectors) degree alpha node (itemsOf ids dists))
   unfolding prune
   pruned row k width degree alpha w = subst (λ (l : List Item). Written row k width (prunedFrom (between dim vectors) degree alpha l)) items-are w
-
-sub-of : (a d : ℕ) → (a + d) - a ≡ d
-sub-of a d = omega arith
-
-pub stretch-length : (table : List ℕ) (place width : ℕ) → place * width + width ≤ length table → length (take ((place * width + width) - place * width) (drop (place * width) table)) ≡ width
-stretch-length table place width h =
-    length-take-le ((place * width + width) - place * width) (drop (place * width) table) (omega (arith, length-drop (place * width) table)) ∙ sub-of (place * width) width
-
--- the part came back as the row
-pub stretched : (table row : List ℕ) (place width r : ℕ) (ids : List ℕ) → place * width + width ≤ length table
-    → Written row r (length (take ((place * width + width) - place * width) (drop (place * width) table))) ids
-    → Stretched table (putMid (place * width) ((place * width + width) - place * width) table row) place width r ids
-stretched table row place width r ids h w =
-    let n = stretch-length table place width h in
-    record {
-      count = w .count;
-      words =
-          ap₂ (λ (l : List ℕ) (k : ℕ). take (place * width) table ++ (l ++ drop k (drop (place * width) table))) (w .words ∙ ap (λ (k : ℕ). padded k ids) n) (sub-of (place * width) width)
-          ∙ ap (λ (l : List ℕ). take (place * width) table ++ (padded width ids ++ l)) (drop-drop width (place * width) table);
-    }

@@ -1,4 +1,3 @@
--- Pruning: what each function says, the row from a whole pool, and rows of a table of which one stretch was written.
+-- Pruning: what each function says, and the row from a whole pool.
 pub mod Says
 pub mod Composed
-pub mod Stretch

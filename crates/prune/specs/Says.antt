@@ -2,16 +2,16 @@
 use mathlib.Core.Path.{_≡_}
 use mathlib.Core.Bool.{cond}
 use mathlib.Core.List.{List, _++_}
-use Prim.Native.Nat.{ℕ, _+_, _*_, _≤_}
+use Prim.Native.Nat.{ℕ, _≤_}
 use lib.Ieee.{Float, eq}
 use lib.ListN.{length, take, drop}
 use Rattle.definition.specs.Metric.{vector, between}
 use Rattle.definition.specs.Floats.{nought, one, largest, divided}
 use Rattle.definition.specs.Prune.{shadeAll, rounds, targetOf, mostRounds}
-use Rattle.definition.specs.Tables.{padded}
 use Rattle.whole.specs.Whole.{IsWhole}
 use Rattle.metric.specs.Exact.{VectorIn}
-use Rattle.prune_items.specs.Items.{All, itemsOf}
+use Rattle.prune_items.specs.Items.{itemsOf}
+use Rattle.laws.specs.All.{All}
 
 -- the quotient as the code has it, on floats
 unfoldable pub quotientF : Float → Float → Float
@@ -41,13 +41,3 @@ roundsOf dim vectors ids dists degree alpha fs = rounds (between dim vectors) (t
 pub record Taken (row : List ℕ) (r degree : ℕ) (ids : List ℕ) : Type 0 where
   pub few : r ≤ degree
   pub are : take r row ≡ ids
-
--- the words are those ids, then padding
-pub record Written (row : List ℕ) (r width : ℕ) (ids : List ℕ) : Type 0 where
-  pub count : r ≡ length ids
-  pub words : row ≡ padded width ids
-
--- only the row at `place` of the table differs: it is those ids, then padding
-pub record Stretched (table₀ table : List ℕ) (place width r : ℕ) (ids : List ℕ) : Type 0 where
-  pub count : r ≡ length ids
-  pub words : table ≡ take (place * width) table₀ ++ (padded width ids ++ drop (place * width + width) table₀)

@@ -1,31 +1,22 @@
 // Part 5, the rounds: which of the candidates become the row, and the writer of the row.
 use metric::from_query;
 use prune_pool::choose;
+use table::index_of;
+use table::pad_from;
 ghost use mathlib.Core.Path.{_≡_};
-ghost use mathlib.Core.List.{_++_};
-ghost use Prim.Native.Nat.{_+_, _-_, _*_, _≤_, _<_};
-ghost use lib.ListN.{length, take, replicate};
+ghost use Prim.Native.Nat.{_+_, _*_, _≤_};
+ghost use lib.ListN.{length};
 ghost use Rattle.definition.specs.Floats.{larger};
 ghost use Rattle.definition.specs.Metric.{between};
 ghost use Rattle.definition.specs.Prune.{targetOf, increment, nextAlpha, prunedFrom, prune};
-ghost use Rattle.definition.specs.Tables.{pad};
 ghost use Rattle.metric.specs.Exact.{VectorIn};
 ghost use Rattle.prune_items.specs.Items.{itemsOf};
 ghost use Rattle.prune_pool.specs.Says.{Distinct};
-ghost use Rattle.prune.specs.Says.{quotientF, Measurable, shadedFrom, Shaded, roundsOf, Taken, Written, Stretched};
+ghost use Rattle.table.specs.Rows.{Written, Stretched};
+ghost use Rattle.prune.specs.Says.{quotientF, Measurable, shadedFrom, Shaded, roundsOf, Taken};
 
 // f32::MAX
 const LARGEST: f32 = 3.40282347e38;
-
-// What no id is: the padding word.
-const PADDING: u32 = 4294967295;
-
-// An id as an index.
-fn wide(x: u32) -> usize
-    ensures { λ r. ⌜ r ≡ x ⌝ }
-{
-    x as usize
-}
 
 // max(alpha, 1); a NaN acts as 1.
 fn target_of(alpha: f32) -> f32
@@ -77,14 +68,15 @@ fn shade_rest(
 )
     requires { ⌜ Measurable dim (now vectors) (now ids) (now dists) ⌝ }
     requires { ⌜ (length (now factors) ≡ length (now ids)) × (from ≤ length (now ids)) × (length (now query) ≡ dim) ⌝ }
-    ensures { λ _. ⌜ Shaded dim (now (vectors .entry)) (now (query .entry)) (now (ids .entry)) (now (dists .entry)) target from (now (factors .entry)) (now (factors .exit)) ⌝ }
+    ensures { λ _. ⌜ Shaded dim (now (vectors .entry)) (now (query .entry)) (now (ids .entry)) (now (dists .entry)) target from
+        (now (factors .entry)) (now (factors .exit)) ⌝ }
 {
     let m = ids.len();
     let mut j = from;
     while j < m {
         let factor = factors[j];
         if !(target < factor) {
-            let other = wide(ids[j]);
+            let other = index_of(ids[j]);
             let apart = from_query(dim, vectors, query, other);
             factors[j] = raised(factor, dists[j], apart);
         }
@@ -106,7 +98,8 @@ fn shade_later(
     requires { ⌜ Measurable dim (now vectors) (now ids) (now dists) ⌝ }
     requires { ⌜ (length (now factors) ≡ length (now ids)) × (from ≤ length (now ids)) ⌝ }
     requires { ⌜ VectorIn dim (now vectors) taken ⌝ }
-    ensures { λ _. ⌜ now (factors .exit) ≡ shadedFrom dim (now (vectors .entry)) (now (ids .entry)) (now (dists .entry)) target taken from (now (factors .entry)) ⌝ }
+    ensures { λ _. ⌜ now (factors .exit)
+        ≡ shadedFrom dim (now (vectors .entry)) (now (ids .entry)) (now (dists .entry)) target taken from (now (factors .entry)) ⌝ }
 {
     let at = taken * dim;
     let end = at + dim;
@@ -135,7 +128,8 @@ fn take_rounds(
 ) -> usize
     requires { ⌜ Measurable dim (now vectors) (now ids) (now dists) ⌝ }
     requires { ⌜ (length (now factors) ≡ length (now ids)) × (degree ≤ length (now row)) ⌝ }
-    ensures { λ r. ⌜ Taken (now (row .exit)) r degree (roundsOf dim (now (vectors .entry)) (now (ids .entry)) (now (dists .entry)) degree alpha (now (factors .entry))) ⌝ }
+    ensures { λ r. ⌜ Taken (now (row .exit)) r degree
+        (roundsOf dim (now (vectors .entry)) (now (ids .entry)) (now (dists .entry)) degree alpha (now (factors .entry))) ⌝ }
 {
     let m = ids.len();
     let target = target_of(alpha);
@@ -153,7 +147,7 @@ fn take_rounds(
                 row[count] = id;
                 count += 1;
                 factors[i] = LARGEST;
-                let taken = wide(id);
+                let taken = index_of(id);
                 shade_later(vectors, dim, ids, dists, factors, i + 1, taken, target);
             }
             i += 1;
@@ -171,18 +165,6 @@ fn take_rounds(
     count
 }
 
-// Padding from place `from` on.
-fn pad_row(row: &mut [u32], from: usize)
-    requires { ⌜ from ≤ length (now row) ⌝ }
-    ensures { λ _. ⌜ now (row .exit) ≡ take from (now (row .entry)) ++ replicate (length (now (row .entry)) - from) pad ⌝ }
-{
-    let mut i = from;
-    while i < row.len() {
-        row[i] = PADDING;
-        i += 1;
-    }
-}
-
 // The writer: the row that pruning gives from these candidates, then padding. Returns how many ids there are.
 pub fn write_pruned(
     vectors: &[u8],
@@ -196,11 +178,12 @@ pub fn write_pruned(
 ) -> usize
     requires { ⌜ Measurable dim (now vectors) (now ids) (now dists) ⌝ }
     requires { ⌜ (length (now factors) ≡ length (now ids)) × (degree ≤ length (now row)) ⌝ }
-    ensures { λ r. ⌜ Written (now (row .exit)) r (length (now (row .entry))) (prunedFrom (between dim (now (vectors .entry))) degree alpha (itemsOf (now (ids .entry)) (now (dists .entry)))) ⌝ }
+    ensures { λ r. ⌜ Written (now (row .exit)) r (length (now (row .entry)))
+        (prunedFrom (between dim (now (vectors .entry))) degree alpha (itemsOf (now (ids .entry)) (now (dists .entry)))) ⌝ }
 {
     scratch::clear_floats(factors);
     let count = take_rounds(vectors, dim, ids, dists, factors, row, degree, alpha);
-    pad_row(row, count);
+    pad_from(row, count);
     count
 }
 
@@ -219,7 +202,8 @@ pub fn prune_neighbors(
     requires { ⌜ Measurable dim (now vectors) (now ids) (now dists) ⌝ }
     requires { ⌜ Distinct (now ids) ⌝ }
     requires { ⌜ (750 ≤ length (now factors)) × (degree ≤ length (now row)) ⌝ }
-    ensures { λ r. ⌜ Written (now (row .exit)) r (length (now (row .entry))) (prune (between dim (now (vectors .entry))) degree alpha node (itemsOf (now (ids .entry)) (now (dists .entry)))) ⌝ }
+    ensures { λ r. ⌜ Written (now (row .exit)) r (length (now (row .entry)))
+        (prune (between dim (now (vectors .entry))) degree alpha node (itemsOf (now (ids .entry)) (now (dists .entry)))) ⌝ }
 {
     let mut ci = [0u32; 750];
     let mut cd = [0.0f32; 750];

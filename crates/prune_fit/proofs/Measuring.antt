@@ -9,8 +9,7 @@ use lib.Seq.{take-suc, take-suc-set, take-all}
 use Rattle.definition.specs.Metric.{between, whole}
 use Rattle.whole.specs.Whole.{limit}
 use Rattle.metric.specs.Exact.{VectorIn, Exact}
-use Rattle.prune_items.specs.Items.{All}
-use Rattle.prune_items.specs.Held.{all-append}
+use Rattle.laws.specs.All.{All, all-append}
 use Rattle.prune_fit.specs.Measured.{Distances}
 
 map-snoc : (f : ℕ → Float) (xs : List ℕ) (x : ℕ) → map f (xs ++ (x ∷ [])) ≡ map f xs ++ (f x ∷ [])
@@ -27,7 +26,8 @@ module _ (dim : ℕ) (vectors : List ℕ) (node : ℕ) (ids : List ℕ) where
   pub measure-start : (dists : List Float) → length dists ≡ length ids → Measuring dim vectors node ids dists 0
   measure-start dists h = record { most = omega arith; size = h; are = refl; small = tt }
 
-  pub measure-on : (dists : List Float) (k id : ℕ) (v : Float) → Measuring dim vectors node ids dists k → k < length ids → id ≡ getD ids k 0 → Exact (between dim vectors node id) v → Measuring dim vectors node ids (set dists k v) (k + 1)
+  pub measure-on : (dists : List Float) (k id : ℕ) (v : Float) → Measuring dim vectors node ids dists k → k < length ids → id ≡ getD ids k 0
+      → Exact (between dim vectors node id) v → Measuring dim vectors node ids (set dists k v) (k + 1)
   measure-on dists k id v s h e b =
       let q : k + 1 ≡ suc k = omega arith in
       let z = s .size in
@@ -41,7 +41,9 @@ module _ (dim : ℕ) (vectors : List ℕ) (node : ℕ) (ids : List ℕ) where
             ∙ ap₂ (λ (l : List Float) (x : Float). l ++ (x ∷ [])) (s .are) (b .is)
             ∙ sym (map-snoc (λ i. whole (between dim vectors node i)) (take k ids) id)
             ∙ ap (map (λ i. whole (between dim vectors node i))) (sym more);
-        small = subst (All (λ (i : ℕ). between dim vectors node i ≤ limit)) (sym more) (all-append (λ (i : ℕ). between dim vectors node i ≤ limit) (take k ids) (id ∷ []) (s .small) (omega arith, tt));
+        small =
+            subst (All (λ (i : ℕ). between dim vectors node i ≤ limit)) (sym more)
+            (all-append (λ (i : ℕ). between dim vectors node i ≤ limit) (take k ids) (id ∷ []) (s .small) (omega arith, tt));
       }
 
   pub measure-end : (dists : List Float) (k : ℕ) → Measuring dim vectors node ids dists k → (k < length ids → ⊥) → Distances dim vectors node ids dists

@@ -1,8 +1,8 @@
 -- The row that the ids of a node become: the definition's `fitted`.
 use mathlib.Core.Path.{_≡_, refl, sym, ap, _∙_, subst}
 use mathlib.Core.Bool.{Bool, true, false, cond}
-use mathlib.Core.List.{List, [], _∷_, _++_}
-use Prim.Native.Nat.{ℕ, suc, _+_, _*_, _≤_, _<_}
+use mathlib.Core.List.{List, _++_}
+use Prim.Native.Nat.{ℕ, _+_, _*_, _≤_, _<_}
 use native.Mathlib.Omega.{arith}
 use borrow.Author.Tests.{le-leb, lt-leb, leb-true}
 use lib.Dec.{leb}
@@ -14,25 +14,36 @@ use Rattle.definition.specs.Floats.{nought, one}
 use Rattle.definition.specs.Prune.{prune, prunedFrom, candidates, measured, targetOf, mostRounds}
 use Rattle.definition.specs.Slack.{slack}
 use Rattle.definition.specs.Batch.{Setting, fitted, pruneIds}
+use Rattle.definition.specs.Outcome.{settingOf}
+use Rattle.laws.specs.Words.{Below}
 use Rattle.whole.specs.Whole.{IsWhole}
+use Rattle.given.specs.Given.{Given, setting, Limits}
 use Rattle.metric.specs.Exact.{VectorIn}
-use Rattle.prune_items.specs.Items.{All, itemsOf}
+use Rattle.metric.specs.Laws.{vector-in}
+use Rattle.prune_items.specs.Items.{itemsOf}
+use Rattle.laws.specs.All.{All, all-of}
 use Rattle.prune_items.specs.Held.{items-measured, wholes-measured}
-use Rattle.prune.specs.Says.{Measurable, Stretched}
-use Rattle.promises.specs.Pruned.{rounds-room}
+use Rattle.prune_pool.specs.Says.{Distinct}
+use Rattle.prune.specs.Says.{Measurable}
+use Rattle.theory.specs.prune.Pruned.{rounds-room}
+use Rattle.table.specs.Rows.{Stretched}
 use Rattle.prune_fit.specs.Measured.{Distances}
-
-abbrev pub setting : ℕ → ℕ → ℕ → List ℕ → ℕ → Float → Setting
-setting n beam dim vectors degree alpha = record { n = n; pair = between dim vectors; degree = degree; beam = beam; alpha = alpha }
 
 -- the ids as they are if there are at most `width`, otherwise pruned
 unfoldable pub fittedTo : Setting → ℕ → ℕ → List ℕ → List ℕ
 fittedTo g width i xs = let p = pruneIds g i xs in cond (leb (length xs) width) xs p
 
--- only the row at `place` differs: it is what the ids are fitted to
-pub record Fitted (table₀ table : List ℕ) (place width dim : ℕ) (vectors ids : List ℕ) (degree : ℕ) (alpha : Float) : Type 0 where
-  pub row : (n beam : ℕ)
-      → Stretched table₀ table place width (length (fittedTo (setting n beam dim vectors degree alpha) width place ids)) (fittedTo (setting n beam dim vectors degree alpha) width place ids)
+-- ids that may be fitted to the row of a node, of `width` words
+pub record Fittable (g : Given) (node width : ℕ) (ids : List ℕ) : Type 0 where
+  pub limits : Limits g
+  pub node-in : node < g .n
+  pub ids-in : Below (g .n) ids
+  pub apart : Distinct ids
+  pub narrow : g .params .degree ≤ width
+
+-- only the row of the node differs: it is what the ids are fitted to
+pub record Fitted (g : Given) (node width : ℕ) (ids table₀ table : List ℕ) : Type 0 where
+  pub row : Stretched table₀ table node width (length (fittedTo (setting g) width node ids)) (fittedTo (setting g) width node ids)
 
 -- the same row said by other words
 pub stretched-as : (table₀ table : List ℕ) (p place width r : ℕ) (ids xs : List ℕ) → p ≡ place → ids ≡ xs → Stretched table₀ table p width r ids → Stretched table₀ table place width (length xs) xs
@@ -45,27 +56,29 @@ stretched-as table₀ table p place width r ids xs q e s =
           ∙ ap (λ (l : List ℕ). take (place * width) table₀ ++ (padded width l ++ drop (place * width + width) table₀)) e;
     }
 
-module _ (table₀ table : List ℕ) (place width dim : ℕ) (vectors ids : List ℕ) (degree : ℕ) (alpha : Float) where
-  pub fits-short : length ids ≤ width → (p r : ℕ) → p ≡ place → Stretched table₀ table p width r ids → Fitted table₀ table place width dim vectors ids degree alpha
+module _ (g : Given) (node width : ℕ) (ids table₀ table : List ℕ) {p r : ℕ} (q : p ≡ node) where
+  pub fits-short : length ids ≤ width → Stretched table₀ table p width r ids → Fitted g node width ids table₀ table
   unfolding fittedTo
-  fits-short h p r q s =
+  fits-short h s =
       record {
-        row = λ n beam.
-            stretched-as table₀ table p place width r ids _ q
-            (ap (λ (b : Bool). cond b ids (pruneIds (setting n beam dim vectors degree alpha) place ids)) (sym (le-leb (length ids) width h))) s;
+        row =
+            stretched-as table₀ table p node width r ids _ q
+            (ap (λ (b : Bool). cond b ids (pruneIds (setting g) node ids)) (sym (le-leb (length ids) width h))) s;
       }
 
-  pub fits-long : width < length ids → (p r : ℕ) (dists : List Float) → p ≡ place → Distances dim vectors p ids dists
-      → Stretched table₀ table p width r (prune (between dim vectors) degree alpha place (itemsOf ids dists)) → Fitted table₀ table place width dim vectors ids degree alpha
-  unfolding fittedTo pruneIds
-  fits-long h p r dists q d s =
+  pub fits-long : {dists : List Float} → width < length ids → Distances (g .dim) (g .vectors) p ids dists
+      → Stretched table₀ table p width r (prune (between (g .dim) (g .vectors)) (g .params .degree) (g .params .alpha) node (itemsOf ids dists))
+      → Fitted g node width ids table₀ table
+  unfolding fittedTo pruneIds settingOf
+  fits-long h d s =
+      let far = between (g .dim) (g .vectors) in
+      let items : itemsOf ids _ ≡ measured (between (g .dim) (g .vectors) node) ids =
+      ap (itemsOf ids) (d .are) ∙ items-measured (far p) ids (d .small) ∙ ap (λ (k : ℕ). measured (far k) ids) q in
       record {
-        row = λ n beam.
-            let items : itemsOf ids dists ≡ measured (between dim vectors place) ids =
-            ap (itemsOf ids) (d .are) ∙ items-measured (between dim vectors p) ids (d .small) ∙ ap (λ (k : ℕ). measured (between dim vectors k) ids) q in
-            stretched-as table₀ table p place width r _ _ q
-            (ap (prune (between dim vectors) degree alpha place) items
-            ∙ ap (λ (b : Bool). cond b ids (pruneIds (setting n beam dim vectors degree alpha) place ids)) (sym (lt-leb (length ids) width h))) s;
+        row =
+            stretched-as table₀ table p node width r _ _ q
+            (ap (prune far (g .params .degree) (g .params .alpha) node) items
+            ∙ ap (λ (b : Bool). cond b ids (pruneIds (setting g) node ids)) (sym (lt-leb (length ids) width h))) s;
       }
 
 -- with the slack for the width this is the definition's `fitted`
@@ -88,16 +101,22 @@ fitted-few g width i xs h = go (leb (length xs) width) refl
     go true e = leb-true (length xs) width e
     go false e = let p = pruned-few g i xs in omega arith
 
-all-rows : (P : ℕ → Type 0) (ids : List ℕ) → ((k : ℕ) → k < length ids → P (getD ids k 0)) → All P ids
-all-rows P [] f = tt
-all-rows P (x ∷ xs) f = (f 0 (omega arith), all-rows P xs (λ k h. f (suc k) (omega arith)))
+module _ {g : Given} {node width : ℕ} {ids : List ℕ} (f : Fittable g node width ids) where
+  reaches : (i : ℕ) → i < g .n → VectorIn (g .dim) (g .vectors) i
+  reaches i h = vector-in (g .dim) (g .vectors) (g .n) i (f .limits .vectors-are) h
 
-pub as-measurable : (dim : ℕ) (vectors ids : List ℕ) (node : ℕ) (dists : List Float) → dim ≤ 256 → length dists ≡ length ids → ((k : ℕ) → k < length ids → VectorIn dim vectors (getD ids k 0)) → Distances dim vectors node ids dists
-    → Measurable dim vectors ids dists
-as-measurable dim vectors ids node dists h e f d =
-    record {
-      same = sym e;
-      narrow = h;
-      rows = all-rows (VectorIn dim vectors) ids f;
-      wholes = subst (All IsWhole) (sym (d .are)) (wholes-measured (between dim vectors node) ids (d .small));
-    }
+  pub node-reaches : {p : ℕ} → p ≡ node → VectorIn (g .dim) (g .vectors) p
+  node-reaches e = subst (VectorIn (g .dim) (g .vectors)) (sym e) (reaches node (f .node-in))
+
+  pub ids-reach : (k : ℕ) → k < length ids → VectorIn (g .dim) (g .vectors) (getD ids k 0)
+  ids-reach k h = reaches (getD ids k 0) (f .ids-in k h)
+
+  pub as-measurable : {p : ℕ} {dists : List Float} → length dists ≡ length ids → Distances (g .dim) (g .vectors) p ids dists
+      → Measurable (g .dim) (g .vectors) ids dists
+  as-measurable {p} e d =
+      record {
+        same = sym e;
+        narrow = f .limits .dim-few;
+        rows = all-of (VectorIn (g .dim) (g .vectors)) 0 ids ids-reach;
+        wholes = subst (All IsWhole) (sym (d .are)) (wholes-measured (between (g .dim) (g .vectors) p) ids (d .small));
+      }

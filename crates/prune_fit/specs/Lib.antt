@@ -1,5 +1,4 @@
 -- Ids that become a row: measured, fitted, written into their stretch of a table.
 pub mod Measured
 pub mod Fits
-pub mod Table
-pub mod Given
+pub mod Fronts

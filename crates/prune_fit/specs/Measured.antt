@@ -5,7 +5,7 @@ use mathlib.Core.List.{List, map}
 use lib.Ieee.{Float}
 use Rattle.definition.specs.Metric.{between, whole}
 use Rattle.whole.specs.Whole.{limit}
-use Rattle.prune_items.specs.Items.{All}
+use Rattle.laws.specs.All.{All}
 
 pub record Distances (dim : ℕ) (vectors : List ℕ) (node : ℕ) (ids : List ℕ) (dists : List Float) : Type 0 where
   pub are : dists ≡ map (λ i. whole (between dim vectors node i)) ids

@@ -5,7 +5,12 @@ use mathlib.Core.Logic.{_⊎_, inl, inr}
 use mathlib.Core.List.{List, [], _∷_, List·Memᴰ as Mem, List·Memᴰ·not-nil as not-nil, List·Memᴰ·cases-cons as cases}
 use Prim.Native.Nat.{ℕ, _+_, _*_, _≤_}
 use native.Mathlib.Omega.{arith}
+use Rattle.definition.specs.Prune.{cut}
 use Rattle.definition.specs.Refusals.{searchWords, searchFloats, buildWords, buildFloats}
+
+-- The greatest beam: as many places work has
+abbrev pub mostBeam : ℕ
+mostBeam = 256
 
 -- Words of a walk: the n marks from 0 on, the ids of the visited, and work
 abbrev pub visitedAt : ℕ → ℕ
@@ -33,6 +38,14 @@ stampsAt n = 4 * n + 256
 
 abbrev pub stampsEnd : ℕ → ℕ
 stampsEnd n = 5 * n + 256
+
+-- how many factors pruning needs: one for each entry that the definition's cut leaves
+abbrev pub mostFactors : ℕ
+mostFactors = 750
+
+pub factors-cut : mostFactors ≡ cut
+unfolding cut
+factors-cut = refl
 
 -- Floats of a pool: its distances; and behind them the factors of pruning
 abbrev pub poolDistsAt : ℕ → ℕ

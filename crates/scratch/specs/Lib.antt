@@ -1,5 +1,5 @@
--- The lent slices: where everything lies in them, the room left zero, and a call's outcome by its number.
+-- The lent slices: where everything lies in them, parts that were cleared, and the room left zero.
 pub mod Lent
 pub mod Layout
 pub mod Clear
-pub mod Outcomes
+pub mod Zeroed

@@ -6,6 +6,12 @@ ghost use lib.Ieee.{ofBits, binary32};
 ghost use Rattle.scratch.specs.Layout.{workAt, workEnd, workDistsEnd, poolAt, stampsAt, stampsEnd, poolDistsAt, factorsAt, factorsEnd, linksAt, linksEnd, freshAt, freshRowAt, freshEnd, floatsEnd};
 ghost use Rattle.scratch.specs.Clear.{FrontClear, RoomClear};
 
+// How many words a fresh row has.
+pub const FRESH_WIDTH: usize = 64;
+
+// How many factors pruning needs: one for each entry that its cut leaves.
+pub const FACTORS: usize = 750;
+
 // Words of a walk: marks from 0, the visited from n, work.
 pub fn work_at(n: usize) -> usize
     requires { ⌜ n ≤ 65536 ⌝ }

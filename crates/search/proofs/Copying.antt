@@ -1,13 +1,14 @@
--- A slice filled from the end of another, and a front that was cleared.
-use mathlib.Core.Path.{_≡_, refl, sym, ap, _∙_, subst}
-use mathlib.Core.List.{List, [], _∷_, _++_}
-use Prim.Native.Nat.{ℕ, zero, suc, _+_, _*_, _-_, _≤_, _<_}
+-- A slice filled from the end of another: each turn of the loop writes one place more; and two fronts that were cleared, which are the stated room.
+use mathlib.Core.Path.{_≡_, refl, sym, ap, _∙_}
+use mathlib.Core.List.{List, _++_}
+use Prim.Native.Nat.{ℕ, _+_, _-_, _≤_, _<_}
 use native.Mathlib.Omega.{arith}
-use lib.Ieee.{Float}
 use lib.ListN.{length, getD, take, drop, set, length-set}
 use lib.Seq.{length-take-le, getD-take}
 use Rattle.definition.specs.Refusals.{searchWords, searchFloats}
 use Rattle.laws.specs.Backwards.{rev, back-step}
+use Rattle.scratch.specs.Lent.{Lent}
+use Rattle.scratch.specs.Layout.{workEnd, workDistsEnd}
 use Rattle.scratch.specs.Clear.{FrontClear}
 use Rattle.search.specs.Answering.{Wiped}
 
@@ -30,7 +31,12 @@ copy-step {A} d from old len i now room h k c =
           ∙ back-step d (take len from) old i len (length-take-le len from room) h k;
     }
 
+pub copy-end : {A : Type 0} (from old : List A) (len i : ℕ) (now : List A) → Copied from old len i now → (count : ℕ) → i ≡ count
+    → now ≡ take count (rev (take len from)) ++ drop count old
+copy-end from old len i now c count q = c .is ∙ ap (λ (m : ℕ). take m (rev (take len from)) ++ drop m old) q
+
 -- the two fronts are the stated room
-pub wiped : (n : ℕ) (words₀ : List ℕ) (floats₀ : List Float) (words : List ℕ) (floats : List Float) → FrontClear (2 * n + 256) (n + 256) words₀ floats₀ words floats → Wiped n words₀ floats₀ words floats
+pub wiped : (n : ℕ) (before after : Lent) → FrontClear (workEnd n) (workDistsEnd n) (before .words) (before .floats) (after .words) (after .floats)
+    → Wiped n before after
 unfolding searchWords searchFloats
-wiped n words₀ floats₀ words floats c = record { words-are = c .words-are; floats-are = c .floats-are }
+wiped n before after c = record { words-are = c .words-are; floats-are = c .floats-are }

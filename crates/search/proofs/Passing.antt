@@ -1,110 +1,139 @@
--- A search that is accepted: what the walk is given, what is listed from it, and what is left.
+-- A search that is accepted: what the walk is given, what is listed from it, and what is left. The walk's room ends where the stated room does, so all that it
+-- wrote is wiped, and what lies beyond is as it was lent.
 use mathlib.Core.Path.{_≡_, refl, sym, ap, _∙_, subst}
-use mathlib.Core.List.{List, [], _∷_, _++_}
-use Prim.Native.Nat.{ℕ, zero, suc, _+_, _*_, _-_, _≤_, _<_, min, max, zero-le}
+use mathlib.Core.List.{List, _++_}
+use Prim.Native.Nat.{ℕ, _-_, _≤_, min, max, zero-le}
 use native.Mathlib.Omega.{arith}
 use borrow.Rule.Slice.PartMut.{putMid}
-use lib.Ieee.{Float}
-use lib.ListN.{length, getD, take, drop, replicate, length-replicate}
+use lib.ListN.{length, drop, replicate, length-replicate}
 use Rattle.definition.specs.Lists.{cleared}
 use Rattle.definition.specs.Metric.{fromQuery}
 use Rattle.definition.specs.Tables.{row}
-use Rattle.definition.specs.Greedy.{State, greedy}
+use Rattle.definition.specs.Greedy.{greedy}
 use Rattle.definition.specs.Floats.{nought}
 use Rattle.definition.specs.declared.Answer.{Answer}
 use Rattle.definition.specs.Outcome.{answer, searchDone}
 use Rattle.definition.specs.Refusals.{SearchCall, searchWords, searchFloats, mostAnswers}
 use Rattle.laws.specs.Parts.{part, Within, part-length, put-within, within-wider, within-trans}
+use Rattle.scratch.specs.Lent.{Lent, lent}
+use Rattle.scratch.specs.Layout.{workAt, workEnd, workDistsAt, workDistsEnd}
 use Rattle.beam.specs.Held.{Holds}
-use Rattle.greedy.specs.Scratch.{Room, Measures, Walks}
-use Rattle.laws.specs.Words.{Searchable}
 use Rattle.marks.specs.Epochs.{epoch-clear}
-use Rattle.checks_number.specs.SearchNumber.{Accepted}
-use Rattle.search.specs.Answering.{Listed, Wiped, workOf, found-count, found-ids, found-dists}
+use Rattle.greedy.specs.declared.Plan.{Plan}
+use Rattle.greedy.specs.declared.Walked.{Walked}
+use Rattle.greedy.specs.Scratch.{Ground, walkOf, workOf, workDistsOf, Room, Walks}
+use Rattle.accepted.specs.Search.{SearchAccepted as Accepted}
+use Rattle.search.specs.Answering.{Pairs, pairs, Listed, Wiped, stateOf, found-count, found-ids, found-dists}
 use Rattle.search.specs.Statement.{outOf, Searched}
 
 cleared-beyond : {A : Type 0} (z : A) (room : ℕ) (l₀ l : List A) → drop room l ≡ drop room l₀ → cleared z room l ≡ cleared z room l₀
 unfolding cleared
 cleared-beyond {A} z room l₀ l e = ap (λ (m : List A). replicate room z ++ m) e
 
-module _ (c : SearchCall) (a : Accepted c) (ys : List ℕ) (zero-marks : ys ≡ replicate (length (part 0 (c .n) (c .words))) 0) (b : ℕ) (b-is : b ≡ max (c .beam) 1) where
-  marks-room : c .n ≤ length (c .words)
-  marks-room = omega (arith, a .word-room)
+-- the plan of the walk, whose beam is b
+abbrev pub planOf : SearchCall → ℕ → Plan
+planOf c b = record { n = c .n; dim = c .dim; width = c .degree; beam = b }
 
-  pub front : Within 0 (c .n) (c .words) (putMid 0 (c .n - 0) (c .words) ys)
-  front = put-within 0 (c .n) (c .words) ys zero-le marks-room (ap length zero-marks ∙ length-replicate _ 0)
-
-  -- ---- the walk may begin
-  pub start-room : Room (c .n) 1 b (putMid 0 (c .n - 0) (c .words) ys) (c .floats)
-  start-room =
+module _ (c : SearchCall) (a : Accepted c) where
+  pub start-ground : (b : ℕ) → Ground (planOf c b) (c .vectors) (c .query) (c .table)
+  start-ground b =
       record {
-        nodes = a .nodes;
-        word-room = omega (arith, a .word-room, front .size);
-        float-room = omega (arith, a .float-room);
-        marks = λ i h. omega (arith, epoch-clear (c .n) (c .words) 0xFFFFFFFF marks-room refl ys zero-marks .below i h);
-        beam-le = omega (arith, a .beam-few);
+        measures = record { vectors-are = a .vectors-are; query-is = a .query-is; few = a .dim-few };
+        size = a .table-is;
+        narrow = omega (arith, a .degree-few);
+        rows = a .rows;
       }
 
-  pub start-measures : Measures (c .n) (c .dim) (c .vectors) (c .query)
-  start-measures = record { vectors-are = a .vectors-are; query-is = a .query-is; few = a .dim-few }
+  -- the marks were cleared: ys came back
+  module _ (ys : List ℕ) (zero-marks : ys ≡ replicate (length (part 0 (c .n) (c .words))) 0) (b : ℕ) (b-is : b ≡ max (c .beam) 1) where
+    abbrev n : ℕ
+    n = c .n
 
-  module _ (words₂ : List ℕ) (floats₂ : List Float) (e v w : ℕ)
-      (walks : Walks (c .n) 1 b (putMid 0 (c .n - 0) (c .words) ys) (c .floats) words₂ floats₂ e v w (greedy (fromQuery (c .dim) (c .vectors) (c .query)) (row (c .degree) (c .table)) (c .n) b (c .start)))
-      (count : ℕ) (count-is : count ≡ min (c .k) w) where
-    words-room : 2 * c .n + 256 ≤ length words₂
-    words-room = omega (arith, walks .words-kept .size, front .size, a .word-room)
+    abbrev marked : Lent
+    marked = lent (putMid 0 (n - 0) (c .words) ys) (c .floats)
 
-    floats-room : c .n + 256 ≤ length floats₂
-    floats-room = omega (arith, walks .floats-kept .size, a .float-room)
+    marks-room : n ≤ length (c .words)
+    marks-room = omega (arith, a .word-room)
 
-    -- ---- the answers may be listed
-    pub list-from : (count ≤ w) × (w ≤ length (part (2 * c .n) (2 * c .n + 256) words₂)) × (w ≤ length (part (c .n) (c .n + 256) floats₂))
-    list-from = (
-      omega arith,
-      omega (arith, walks .work-le, walks .room .beam-le, part-length (2 * c .n) (2 * c .n + 256) words₂ words-room),
-      omega (arith, walks .work-le, walks .room .beam-le, part-length (c .n) (c .n + 256) floats₂ floats-room),
-    )
+    pub front : Within 0 n (c .words) (marked .words)
+    front = put-within 0 n (c .words) ys zero-le marks-room (ap length zero-marks ∙ length-replicate _ 0)
 
-    few : count ≤ mostAnswers (c .beam) (c .k)
-    unfolding mostAnswers
-    few = omega (arith, walks .work-le)
+    -- ---- the walk may begin
+    pub start-room : Room (planOf c b) 1 marked
+    start-room =
+        record {
+          space = record {
+            nodes = a .nodes;
+            word-room = omega (arith, a .word-room, front .size);
+            float-room = omega (arith, a .float-room);
+            beam-le = omega (arith, a .beam-few);
+          };
+          marks = λ i h. omega (arith, epoch-clear n (c .words) 0xFFFFFFFF marks-room refl ys zero-marks .below i h);
+        }
 
-    pub list-to : (count ≤ length (c .ids)) × (count ≤ length (c .dists))
-    list-to = (omega (arith, few, a .id-room), omega (arith, few, a .dist-room))
+    module _ (after : Lent) (r : Walked)
+        (walks : Walks (planOf c b) 1 marked after r (walkOf (planOf c b) (fromQuery (c .dim) (c .vectors) (c .query)) (c .table) (c .start)))
+        (count : ℕ) (count-is : count ≡ min (c .k) (r .work)) where
+      -- the work that the walk left
+      abbrev work : Pairs
+      work = pairs (workOf n (after .words)) (workDistsOf n (after .floats))
 
-    pub wipe-room : (c .n ≤ 65536) × (2 * c .n + 256 ≤ length words₂) × (c .n + 256 ≤ length floats₂)
-    wipe-room = (a .nodes, words-room, floats-room)
+      words-room : workEnd n ≤ length (after .words)
+      words-room = walks .room .space .word-room
 
-    -- ---- what is left
-    held : Holds (part (2 * c .n) (2 * c .n + 256) words₂) (part (c .n) (c .n + 256) floats₂) w (workOf c .work)
-    held =
-        subst (λ (m : ℕ). Holds (part (2 * c .n) (2 * c .n + 256) words₂) (part (c .n) (c .n + 256) floats₂) w (greedy (fromQuery (c .dim) (c .vectors) (c .query)) (row (c .degree) (c .table)) (c .n) m (c .start) .work)) b-is
-        (walks .work-is)
+      floats-room : workDistsEnd n ≤ length (after .floats)
+      floats-room = walks .room .space .float-room
 
-    beyond-words : drop (searchWords (c .n)) words₂ ≡ drop (searchWords (c .n)) (c .words)
-    unfolding searchWords
-    beyond-words =
-        within-trans 0 (2 * c .n + 256) (c .words) _ words₂
-        (within-wider 0 (c .n) _ _ front 0 (2 * c .n + 256) (omega arith) (omega arith))
-        (walks .words-kept) .above
+      -- ---- the answers may be listed
+      pub list-from : (count ≤ r .work) × (r .work ≤ length (work .ids)) × (r .work ≤ length (work .dists))
+      list-from = (
+        omega arith,
+        omega (arith, walks .work-le, walks .room .space .beam-le, part-length (workAt n) (workEnd n) (after .words) words-room),
+        omega (arith, walks .work-le, walks .room .space .beam-le, part-length (workDistsAt n) (workDistsEnd n) (after .floats) floats-room),
+      )
 
-    beyond-floats : drop (searchFloats (c .n)) floats₂ ≡ drop (searchFloats (c .n)) (c .floats)
-    unfolding searchFloats
-    beyond-floats = walks .floats-kept .above
+      few : count ≤ mostAnswers (c .beam) (c .k)
+      unfolding mostAnswers
+      few = omega (arith, walks .work-le)
 
-    module _ (ids : List ℕ) (dists : List Float) (l : Listed (part (2 * c .n) (2 * c .n + 256) words₂) (part (c .n) (c .n + 256) floats₂) w count (c .ids) (c .dists) ids dists)
-        (words₃ : List ℕ) (floats₃ : List Float) (z : Wiped (c .n) words₂ floats₂ words₃ floats₃) where
-      pub left : outOf (answer 0 count 0 0 nought) words₃ floats₃ ids dists ≡ searchDone c
-      unfolding searchDone
-      left =
-          rw (
-            found-count c _ _ w held count count-is,
-            z .words-are ∙ cleared-beyond 0 (searchWords (c .n)) (c .words) words₂ beyond-words,
-            z .floats-are ∙ cleared-beyond nought (searchFloats (c .n)) (c .floats) floats₂ beyond-floats,
-            found-ids c _ _ w held count count-is ids dists l,
-            found-dists c _ _ w held count count-is ids dists l,
-          ) refl
+      pub list-to : (count ≤ length (c .ids)) × (count ≤ length (c .dists))
+      list-to = (omega (arith, few, a .id-room), omega (arith, few, a .dist-room))
 
-      pub done : (a : Answer) → a ≡ answer 0 count 0 0 nought → Searched c (outOf a words₃ floats₃ ids dists)
-      unfolding answer
-      done a e = record { is = ap (λ (x : Answer). outOf x words₃ floats₃ ids dists) e ∙ left; few = subst (λ (x : Answer). x .count ≤ mostAnswers (c .beam) (c .k)) (sym e) few }
+      pub wipe-room : (n ≤ 65536) × (workEnd n ≤ length (after .words)) × (workDistsEnd n ≤ length (after .floats))
+      wipe-room = (a .nodes, words-room, floats-room)
+
+      -- ---- what is left
+      held : Holds (work .ids) (work .dists) (r .work) (stateOf c .work)
+      held =
+          let d = fromQuery (c .dim) (c .vectors) (c .query) in
+          subst (λ (m : ℕ). Holds (work .ids) (work .dists) (r .work) (greedy d (row (c .degree) (c .table)) n m (c .start) .work)) b-is (walks .work-is)
+
+      beyond-words : drop (searchWords n) (after .words) ≡ drop (searchWords n) (c .words)
+      unfolding searchWords
+      beyond-words =
+          within-trans 0 (workEnd n) (c .words) _ (after .words) (within-wider 0 n _ _ front 0 (workEnd n) (omega arith) (omega arith))
+          (walks .words-kept) .above
+
+      beyond-floats : drop (searchFloats n) (after .floats) ≡ drop (searchFloats n) (c .floats)
+      unfolding searchFloats
+      beyond-floats = walks .floats-kept .above
+
+      module _ (outs : Pairs) (l : Listed work (r .work) count (pairs (c .ids) (c .dists)) outs) (left : Lent) (z : Wiped n after left) where
+        done-is : outOf (answer 0 count 0 0 nought) (left .words) (left .floats) (outs .ids) (outs .dists) ≡ searchDone c
+        unfolding searchDone
+        done-is =
+            rw (
+              found-count c work (r .work) held count count-is,
+              z .words-are ∙ cleared-beyond 0 (searchWords n) (c .words) (after .words) beyond-words,
+              z .floats-are ∙ cleared-beyond nought (searchFloats n) (c .floats) (after .floats) beyond-floats,
+              found-ids c work (r .work) held count count-is outs l,
+              found-dists c work (r .work) held count count-is outs l,
+            ) refl
+
+        pub done : (e : Answer) → e ≡ answer 0 count 0 0 nought → Searched c (outOf e (left .words) (left .floats) (outs .ids) (outs .dists))
+        unfolding answer
+        done e q =
+            record {
+              is = ap (λ (x : Answer). outOf x (left .words) (left .floats) (outs .ids) (outs .dists)) q ∙ done-is;
+              few = subst (λ (x : Answer). x .count ≤ mostAnswers (c .beam) (c .k)) (sym q) few;
+            }

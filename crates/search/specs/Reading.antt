@@ -3,7 +3,6 @@ use mathlib.Core.Path.{_≡_, refl, ap, _∙_}
 use mathlib.Core.List.{List, _++_, map}
 use Prim.Native.Nat.{ℕ, zero, suc, _<_}
 use native.Mathlib.Omega.{arith}
-use lib.Ieee.{Float}
 use lib.ListN.{length, getD, length-map, List·getD-append}
 use Rattle.definition.specs.declared.Answer.{Answer}
 use Rattle.definition.specs.Lists.{over}
@@ -11,10 +10,11 @@ use Rattle.definition.specs.Metric.{whole}
 use Rattle.definition.specs.Beam.{Item}
 use Rattle.definition.specs.Refusals.{SearchCall, searchNumber}
 use Rattle.definition.specs.Outcome.{SearchOut, SearchMeets, found, foundIds, foundDists, byNumber, searchOut, searchKept, searchDone, refused, answer}
-use Rattle.beam.specs.ListLaws.{map-at}
+use Rattle.laws.specs.Mapped.{map-at}
 
 -- an answer's place in a list that begins with what f gives of each
-pub front-at : {A : Type 0} (f : Item → A) (items : List Item) (rest : List A) (i : ℕ) (d : A) (e : Item) → i < length items → getD (map f items ++ rest) i d ≡ f (getD items i e)
+pub front-at : {A : Type 0} (f : Item → A) (items : List Item) (rest : List A) (i : ℕ) (d : A) (e : Item) → i < length items
+    → getD (map f items ++ rest) i d ≡ f (getD items i e)
 front-at f items rest i d e h = List·getD-append (map f items) rest d i (omega (arith, length-map items f)) ∙ map-at f e d items i h
 
 module _ (c : SearchCall) (o : SearchOut) (m : SearchMeets c o) where

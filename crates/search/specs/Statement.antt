@@ -7,8 +7,9 @@ use lib.ListN.{length}
 use Rattle.definition.specs.declared.Answer.{Answer}
 use Rattle.definition.specs.Refusals.{SearchCall, mostAnswers, searchNumber}
 use Rattle.definition.specs.Outcome.{refused, searchKept, searchDone, searchOut, SearchMeets, SearchOut}
-use Rattle.scratch.specs.Outcomes.{by-refusal, by-success}
-use Rattle.checks_number.specs.SearchNumber.{SearchNumbered, Accepted, accepted-at, plain}
+use Rattle.accepted.specs.Outcomes.{by-refusal, by-success}
+use Rattle.accepted.specs.Search.{SearchAccepted as Accepted, accepted-at}
+use Rattle.checks_number.specs.SearchNumber.{SearchNumbered, plain}
 
 abbrev pub outOf : Answer → List ℕ → List Float → List ℕ → List Float → SearchOut
 outOf a words floats ids dists = record { answer = a; words = words; floats = floats; ids = ids; dists = dists }

@@ -3,14 +3,14 @@
 use definition::Answer;
 use greedy::Plan;
 ghost use mathlib.Core.Path.{_≡_};
-ghost use Prim.Native.Nat.{_+_, _*_, _≤_, _<_, max};
+ghost use Prim.Native.Nat.{_≤_, max};
 ghost use lib.ListN.{length};
-ghost use Rattle.definition.specs.Lists.{cleared};
-ghost use Rattle.definition.specs.Floats.{nought};
-ghost use Rattle.definition.specs.Refusals.{searchWords, searchFloats};
 ghost use Rattle.definition.specs.Outcome.{SearchMeets};
-ghost use Rattle.checks_number.specs.SearchNumber.{callOf, Accepted};
-ghost use Rattle.search.specs.Answering.{Listed, Wiped};
+ghost use Rattle.scratch.specs.Lent.{lent};
+ghost use Rattle.scratch.specs.Layout.{workEnd, workDistsEnd};
+ghost use Rattle.accepted.specs.Search.{SearchAccepted as Accepted};
+ghost use Rattle.checks_number.specs.SearchNumber.{callOf};
+ghost use Rattle.search.specs.Answering.{pairs, Listed, Wiped};
 ghost use Rattle.search.specs.Statement.{outOf, Searched};
 
 // At least 1.
@@ -34,7 +34,8 @@ fn list_answers(
 )
     requires { ⌜ (count ≤ len) × (len ≤ length (now from)) × (len ≤ length (now dfrom)) ⌝ }
     requires { ⌜ (count ≤ length (now ids)) × (count ≤ length (now dists)) ⌝ }
-    ensures { λ _. ⌜ Listed (now (from .entry)) (now (dfrom .entry)) len count (now (ids .entry)) (now (dists .entry)) (now (ids .exit)) (now (dists .exit)) ⌝ }
+    ensures { λ _. ⌜ Listed (pairs (now (from .entry)) (now (dfrom .entry))) len count
+        (pairs (now (ids .entry)) (now (dists .entry))) (pairs (now (ids .exit)) (now (dists .exit))) ⌝ }
 {
     let mut i = 0;
     while i < count {
@@ -48,11 +49,11 @@ fn list_answers(
 
 // The stated room becomes zero.
 fn wipe(words: &mut [u32], floats: &mut [f32], n: usize)
-    requires { ⌜ (n ≤ 65536) × (2 * n + 256 ≤ length (now words)) × (n + 256 ≤ length (now floats)) ⌝ }
-    ensures { λ _. ⌜ Wiped n (now (words .entry)) (now (floats .entry)) (now (words .exit)) (now (floats .exit)) ⌝ }
+    requires { ⌜ (n ≤ 65536) × (workEnd n ≤ length (now words)) × (workDistsEnd n ≤ length (now floats)) ⌝ }
+    ensures { λ _. ⌜ Wiped n (lent (now (words .entry)) (now (floats .entry))) (lent (now (words .exit)) (now (floats .exit))) ⌝ }
 {
-    let w = 2 * n + 256;
-    let f = n + 256;
+    let w = scratch::work_end(n);
+    let f = scratch::work_dists_end(n);
     scratch::clear_front(words, floats, w, f);
 }
 
@@ -74,7 +75,8 @@ pub fn search_accepted(
 ) -> Answer
     requires { ⌜ Accepted (callOf n dim (now vectors) degree beam k start (now table) (now query) (now words) (now floats) (now ids) (now dists)) ⌝ }
     ensures { λ r. ⌜ Searched
-        (callOf n dim (now (vectors .entry)) degree beam k start (now (table .entry)) (now (query .entry)) (now (words .entry)) (now (floats .entry)) (now (ids .entry)) (now (dists .entry)))
+        (callOf n dim (now (vectors .entry)) degree beam k start (now (table .entry)) (now (query .entry))
+        (now (words .entry)) (now (floats .entry)) (now (ids .entry)) (now (dists .entry)))
         (outOf r (now (words .exit)) (now (floats .exit)) (now (ids .exit)) (now (dists .exit))) ⌝ }
 {
     let most = raised(beam);
@@ -88,10 +90,10 @@ pub fn search_accepted(
     let s = greedy::greedy(words, floats, vectors, query, table, p, 1, start);
     let len = s.work;
     let count = laws::least(k, len);
-    let w = 2 * n;
-    let we = w + 256;
-    let fe = n + 256;
-    list_answers(&words[w..we], &floats[n..fe], len, count, ids, dists);
+    let at = scratch::work_at(n);
+    let end = scratch::work_end(n);
+    let fend = scratch::work_dists_end(n);
+    list_answers(&words[at..end], &floats[n..fend], len, count, ids, dists);
     wipe(words, floats, n);
     answers::found(count)
 }
@@ -114,7 +116,21 @@ pub fn search(
     dists: &mut [f32],
 ) -> Answer
     ensures { λ r. ⌜ SearchMeets
-        (record { n = n; dim = dim; vectors = now (vectors .entry); degree = degree; beam = beam; k = k; start = start; table = now (table .entry); query = now (query .entry); words = now (words .entry); floats = now (floats .entry); ids = now (ids .entry); dists = now (dists .entry) })
+        (record {
+          n = n;
+          dim = dim;
+          vectors = now (vectors .entry);
+          degree = degree;
+          beam = beam;
+          k = k;
+          start = start;
+          table = now (table .entry);
+          query = now (query .entry);
+          words = now (words .entry);
+          floats = now (floats .entry);
+          ids = now (ids .entry);
+          dists = now (dists .entry);
+        })
         (record { answer = r; words = now (words .exit); floats = now (floats .exit); ids = now (ids .exit); dists = now (dists .exit) }) ⌝ }
 {
     let number = checks_number::search_number(

@@ -13,9 +13,9 @@ use Rattle.definition.specs.Beam.{Item, item}
 use Rattle.definition.specs.declared.Answer.{Answer}
 use Rattle.definition.specs.Refusals.{SearchCall, mostAnswers, recordsNumber}
 use Rattle.definition.specs.Outcome.{answer, refused, found, foundIds, foundDists, foundRecords, searchDone, SearchOut, RecordsOut, recordsKept, recordsDone, recordsOut, RecordsMeets}
-use Rattle.scratch.specs.Outcomes.{by-refusal, by-success}
+use Rattle.accepted.specs.Outcomes.{by-refusal, by-success}
 use Rattle.checks_number.specs.SearchNumber.{with-records}
-use Rattle.beam.specs.ListLaws.{map-at}
+use Rattle.laws.specs.Mapped.{map-at}
 use Rattle.search.specs.Reading.{front-at}
 use Rattle.search.specs.Statement.{outOf, Searched, NumberedBeside, beside-accepted}
 use Rattle.search_records.specs.Copied.{candidate, copied, copied-is}

@@ -1,6 +1,6 @@
--- The lines that are printed, from the answers that stand in the two outputs.
-use mathlib.Core.Path.{_≡_, refl, ap, _∙_}
-use mathlib.Core.List.{List, [], _∷_, _++_, map, append-nil, append-assoc}
+-- The lines that are printed, from the answers that stand in the two outputs: line by line they are the definition's.
+use mathlib.Core.Path.{_≡_, refl}
+use mathlib.Core.List.{List, map}
 use Prim.Native.Nat.{ℕ, zero, suc, _≤_, _<_}
 use native.Mathlib.Omega.{arith}
 use lib.Ieee.{Float, nan}
@@ -10,18 +10,15 @@ use Rattle.definition.specs.Lists.{joined, over}
 use Rattle.definition.specs.Metric.{whole}
 use Rattle.definition.specs.Beam.{Item, nobody}
 use Rattle.definition.specs.Seek.{printItem, printFound}
+use Rattle.laws.specs.Members.{joined-snoc}
 use Rattle.whole.specs.Whole.{count-whole, is-whole}
-use Rattle.beam.specs.Held.{All, Small}
-use Rattle.beam.specs.Order.{all-at}
+use Rattle.beam.specs.Held.{Small}
+use Rattle.laws.specs.All.{All, all-at}
 use Rattle.search.specs.Reading.{front-at}
 use Rattle.seek_print.specs.Printed.{Wholes, linesUp, foundText}
 
-joined-more : (f : Item → List ℕ) (l : List Item) (x : Item) → joined (map f (l ++ (x ∷ []))) ≡ joined (map f l) ++ f x
-unfolding joined
-joined-more f [] x = append-nil (f x)
-joined-more f (y ∷ ys) x = rw (joined-more f ys x, append-assoc) refl
-
-module _ (items : List Item) (ids₀ ids : List ℕ) (dists₀ dists : List Float) (p : ids ≡ over (map (λ (a : Item). a .id) items) ids₀) (q : dists ≡ over (map (λ (a : Item). whole (a .dist)) items) dists₀) (t : All Small items) where
+module _ (items : List Item) (ids₀ ids : List ℕ) (dists₀ dists : List Float) (p : ids ≡ over (map (λ (a : Item). a .id) items) ids₀)
+    (q : dists ≡ over (map (λ (a : Item). whole (a .dist)) items) dists₀) (t : All Small items) where
   id-at : (i : ℕ) → i < length items → getD ids i 0 ≡ getD items i nobody .id
   unfolding over
   id-at i h = rw p (front-at (λ (a : Item). a .id) items _ i 0 nobody h)
@@ -37,7 +34,9 @@ module _ (items : List Item) (ids₀ ids : List ℕ) (dists₀ dists : List Floa
   unfolding linesUp joined
   lines-are zero h = refl
   lines-are (suc i) h =
-      rw (take-suc items i nobody h, joined-more printItem (take i items) (getD items i nobody), lines-are i (omega arith), id-at i h, dist-at i h, count-whole (getD items i nobody .dist) (all-at Small nobody items t i h)) refl
+      let here = getD items i nobody in
+      let number = count-whole (here .dist) (all-at Small nobody items t i h) in
+      rw (take-suc items i nobody h, joined-snoc printItem (take i items) here, lines-are i (omega arith), id-at i h, dist-at i h, number) refl
 
   pub found-is : foundText ids dists (length items) ≡ printFound items
   unfolding foundText printFound

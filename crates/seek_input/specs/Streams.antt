@@ -3,12 +3,14 @@ use mathlib.Core.Path.{_≡_, refl, sym, _∙_}
 use mathlib.Core.Bool.{Bool, true, false}
 use mathlib.Core.List.{List, [], _++_, append-nil}
 use Prim.Native.Nat.{ℕ, _-_, _≤_, _<_}
+use native.Mathlib.Nat.{sub-zero}
 use native.Mathlib.Omega.{arith}
 use borrow.Author.Tests.{ltb-true, ltb-false}
 use lib.Dec.{ltb}
-use lib.ListN.{length, take, drop, length-append}
+use lib.ListN.{length, take, length-append}
 use Rattle.io.specs.Counts.{Counts}
 use Rattle.definition.specs.Seek.{mostInput, seek}
+use Rattle.laws.specs.Parts.{part}
 use Rattle.seek_print.specs.Printed.{Put}
 use Rattle.seek_answer.specs.Answering.{seek-long}
 
@@ -30,8 +32,6 @@ text-read count text more counts = record { counts = counts; whole = λ rest end
         ∙ sym (seek-long (take count text) (omega (arith, counts .1)))
 
 -- what is put for the first `count` bytes of a text, and handed over
-pub put-handed : (text out₀ out : List ℕ) (count end : ℕ) → Put (seek (take (count - 0) (drop 0 text))) out₀ 0 out end → take end out ≡ seek (take count text)
-put-handed text out₀ out count end p = p .are ∙ rw first refl
-  where
-    first : count - 0 ≡ count
-    first = omega arith
+pub put-handed : (text : List ℕ) {out₀ out : List ℕ} (count : ℕ) {end : ℕ} → Put (seek (part 0 count text)) out₀ 0 out end
+    → take end out ≡ seek (take count text)
+put-handed text count p = p .are ∙ rw (sub-zero count) refl

@@ -1,12 +1,11 @@
 -- What the printing functions leave.
 use mathlib.Core.Path.{_≡_, ap}
 use mathlib.Core.List.{List, [], _∷_, _++_}
-use Prim.Native.Nat.{ℕ, zero, suc, _+_, _-_, _*_, _≤_, _<_}
+use Prim.Native.Nat.{ℕ, zero, suc, _+_, _-_, _≤_, _<_}
 use native.Mathlib.Omega.{arith}
-use lib.ListN.{length, take, drop, getD, length-take}
+use lib.ListN.{length, take, getD, length-take}
 use lib.Ieee.{Float, nan}
 use Rattle.whole.specs.Whole.{count, IsWhole}
-use Rattle.definition.specs.Beam.{Item}
 use Rattle.definition.specs.Seek.{decimal, printItem}
 
 -- the bytes stand at `at`, up to `end`, and nothing before them differs
@@ -14,6 +13,9 @@ pub record Put (bytes out₀ : List ℕ) (at : ℕ) (out : List ℕ) (end : ℕ)
   pub size : length out ≡ length out₀
   pub ends : end ≡ at + length bytes
   pub are : take end out ≡ take at out₀ ++ bytes
+
+pub put-same : {a b out₀ out : List ℕ} {at end : ℕ} → a ≡ b → Put a out₀ at out end → Put b out₀ at out end
+put-same e p = rw e at p
 
 -- what is put fits in what was lent
 pub put-length : (bytes out₀ out : List ℕ) (end : ℕ) → Put bytes out₀ 0 out end → end ≡ length (take end out)

@@ -1,43 +1,29 @@
-// The searches of 01's samples, with what each leaves: its number and count, the answers' ids, whether their distances are the stated ones, the sum of the words
-// in the room and of those beyond it (7 each as lent), and the id after the answers (9 as lent).
+// The searches of 01's samples, with what each leaves: its number and count, the answers' ids, whether their distances are the stated ones, the sum of the
+// words in the room and of those beyond it (7 each as lent), and the id after the answers (9 as lent).
 
 use definition::Answer;
-use libc::STDOUT_FILENO;
-ghost use Prim.Native.Nat.{_≤_};
-ghost use lib.ListN.{length};
+use laws::least;
+use test_words::say;
+use test_words::say_field;
 
-const PAD: u32 = 0xFFFFFFFF;
+const PADDING: u32 = 4294967295;
 
-fn print_number(n: u64) {
-    io::print_decimal(STDOUT_FILENO, n);
-    io::write_all(STDOUT_FILENO, b" ");
-}
-
-fn least(a: usize, b: usize) -> usize
-    ensures { λ r. ⌜ (r ≤ a) × (r ≤ b) ⌝ }
-{
-    if a < b {
-        return a;
-    }
-    b
-}
-
-fn wide(x: u32) -> u64 {
+fn widened(x: u32) -> u64 {
     x as u64
 }
 
-fn print_ids(ids: &[u32], count: usize) {
+fn say_ids(ids: &[u32], count: usize) {
     let end = least(count, ids.len());
     let mut i = 0;
     while i < end {
-        print_number(wide(ids[i]));
+        say_field(widened(ids[i]));
         i += 1;
     }
 }
 
-fn print_next(ids: &[u32], count: usize) {
+fn say_next(ids: &[u32], count: usize) {
     if count < ids.len() {
-        print_number(wide(ids[count]));
+        say_field(widened(ids[count]));
     }
 }
 
@@ -55,37 +41,37 @@ fn agreeing(dists: &[f32], count: usize, stated: &[f32]) -> usize {
 }
 
 // The sum of the words from `from` up to `to`.
-fn summed(words: &[u32], from: usize, to: usize) -> u64 {
+fn sum_between(words: &[u32], from: usize, to: usize) -> u64 {
     let end = least(to, words.len());
     let mut sum: u64 = 0;
     let mut i = from;
     while i < end {
-        sum = std::num::wrapping_add_u64(sum, wide(words[i]));
+        sum = std::num::wrapping_add_u64(sum, widened(words[i]));
         i += 1;
     }
     sum
 }
 
 // A line on what a search left of words, ids and distances.
-fn report(a: Answer, words: &[u32], ids: &[u32], dists: &[f32], stated: &[f32]) {
-    print_number(wide(a.number));
-    print_number(a.count as u64);
-    io::write_all(STDOUT_FILENO, b"ids ");
-    print_ids(ids, a.count);
-    io::write_all(STDOUT_FILENO, b"distances as stated ");
-    print_number(agreeing(dists, a.count, stated) as u64);
-    io::write_all(STDOUT_FILENO, b"room ");
-    print_number(summed(words, 0, 264));
-    io::write_all(STDOUT_FILENO, b"beyond ");
-    print_number(summed(words, 264, 300));
-    io::write_all(STDOUT_FILENO, b"next id ");
-    print_next(ids, a.count);
-    io::write_all(STDOUT_FILENO, b"\n");
+fn say_found(a: Answer, words: &[u32], ids: &[u32], dists: &[f32], stated: &[f32]) {
+    say_field(a.number as u64);
+    say_field(a.count as u64);
+    say(b"ids ");
+    say_ids(ids, a.count);
+    say(b"distances as stated ");
+    say_field(agreeing(dists, a.count, stated) as u64);
+    say(b"room ");
+    say_field(sum_between(words, 0, 264));
+    say(b"beyond ");
+    say_field(sum_between(words, 264, 300));
+    say(b"next id ");
+    say_next(ids, a.count);
+    say(b"\n");
 }
 
 // A search of the line's table from entry 0, with vectors of one byte.
-fn print_search(vectors: &[u8], query: u8, beam: usize, k: usize, stated: &[f32]) {
-    let table = [1u32, PAD, 0, 2, 1, 3, 2, PAD];
+fn show_search(vectors: &[u8], query: u8, beam: usize, k: usize, stated: &[f32]) {
+    let table = [1u32, PADDING, 0, 2, 1, 3, 2, PADDING];
     let asked = [query];
     let mut words = [7u32; 300];
     let mut floats = [7.0f32; 300];
@@ -106,26 +92,26 @@ fn print_search(vectors: &[u8], query: u8, beam: usize, k: usize, stated: &[f32]
         &mut ids,
         &mut dists,
     );
-    report(a, &words, &ids, &dists, stated);
+    say_found(a, &words, &ids, &dists, stated);
 }
 
 fn main() {
     let line = [10u8, 20, 30, 40];
     let other = [10u8, 20, 30, 25];
-    io::write_all(STDOUT_FILENO, b"query 38 beam 2 k 2: ");
-    print_search(&line, 38, 2, 2, &[4.0, 64.0]);
-    io::write_all(STDOUT_FILENO, b"query 38 beam 1 k 2: ");
-    print_search(&line, 38, 1, 2, &[784.0]);
-    io::write_all(STDOUT_FILENO, b"query 38 beam 0 k 2: ");
-    print_search(&line, 38, 0, 2, &[784.0]);
-    io::write_all(STDOUT_FILENO, b"query 38 beam 8 k 8: ");
-    print_search(&line, 38, 8, 8, &[4.0, 64.0, 324.0, 784.0]);
-    io::write_all(STDOUT_FILENO, b"query 25 beam 4 k 4: ");
-    print_search(&line, 25, 4, 4, &[25.0, 25.0, 225.0, 225.0]);
-    io::write_all(STDOUT_FILENO, b"missed entry: ");
-    print_search(&other, 25, 2, 2, &[25.0, 25.0]);
-    io::write_all(STDOUT_FILENO, b"query 38 beam 257 k 2: ");
-    print_search(&line, 38, 257, 2, &[0.0]);
-    io::write_all(STDOUT_FILENO, b"query 38 beam 4 k 0: ");
-    print_search(&line, 38, 4, 0, &[0.0]);
+    say(b"query 38 beam 2 k 2: ");
+    show_search(&line, 38, 2, 2, &[4.0, 64.0]);
+    say(b"query 38 beam 1 k 2: ");
+    show_search(&line, 38, 1, 2, &[784.0]);
+    say(b"query 38 beam 0 k 2: ");
+    show_search(&line, 38, 0, 2, &[784.0]);
+    say(b"query 38 beam 8 k 8: ");
+    show_search(&line, 38, 8, 8, &[4.0, 64.0, 324.0, 784.0]);
+    say(b"query 25 beam 4 k 4: ");
+    show_search(&line, 25, 4, 4, &[25.0, 25.0, 225.0, 225.0]);
+    say(b"missed entry: ");
+    show_search(&other, 25, 2, 2, &[25.0, 25.0]);
+    say(b"query 38 beam 257 k 2: ");
+    show_search(&line, 38, 257, 2, &[0.0]);
+    say(b"query 38 beam 4 k 0: ");
+    show_search(&line, 38, 4, 0, &[0.0]);
 }

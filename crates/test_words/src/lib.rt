@@ -1,15 +1,46 @@
-// What `replay` needs of text and words: decimals read to words, lists copied out of them, and a sum of a slice by which it is compared.
-// None of it decides an outcome: the words of a text that is cut short read as 0.
+// Words, for the programs that only test: read from text, copied out as lists, summed so that a slice can be compared, and printed.
 
+use libc::STDIN_FILENO;
+use libc::STDOUT_FILENO;
 ghost use mathlib.Core.Path.{_≡_};
 ghost use Prim.Native.Nat.{_≤_};
 ghost use lib.ListN.{length};
 
-fn is_digit(b: u8) -> bool {
-    if b < 48 {
-        return false;
+const PADDING: u32 = 4294967295;
+
+// What a byte of text stands in.
+const BLANK: u32 = 0;
+
+const WORD: u32 = 1;
+
+const COMMENT: u32 = 2;
+
+// A comment goes from `#` to the end of its line.
+fn next_part(part: u32, b: u8) -> u32 {
+    if b == b'\n' {
+        return BLANK;
     }
-    b <= 57
+    if part == COMMENT {
+        return COMMENT;
+    }
+    if b == b'#' {
+        return COMMENT;
+    }
+    if b <= b' ' {
+        return BLANK;
+    }
+    WORD
+}
+
+// The place moves on where a word ends.
+fn next_place(at: usize, part: u32, next: u32) -> usize {
+    if part != WORD {
+        return at;
+    }
+    if next == WORD {
+        return at;
+    }
+    std::num::wrapping_add_usize(at, 1)
 }
 
 // Modulo 2^32.
@@ -20,27 +51,19 @@ fn ten_times(x: u32) -> u32 {
     std::num::wrapping_add_u32(eight, two)
 }
 
-// The value after one more byte of it: `-` is padding; a byte that is no digit begins another value.
-fn next_value(x: u32, b: u8) -> u32 {
-    if b == 45 {
-        return 4294967295;
+// The value after one more byte of its word: a digit, or `-`, which is padding.
+fn next_value(x: u32, next: u32, b: u8) -> u32 {
+    if next != WORD {
+        return 0;
     }
-    if is_digit(b) {
-        let digit = std::num::wrapping_sub_u32(b as u32, 48);
-        return std::num::wrapping_add_u32(ten_times(x), digit);
+    if b == b'-' {
+        return PADDING;
     }
-    0
+    let digit = std::num::wrapping_sub_u32(b as u32, 48);
+    std::num::wrapping_add_u32(ten_times(x), digit)
 }
 
-// A space or newline ends a word.
-fn next_place(at: usize, b: u8) -> usize {
-    if b <= 32 {
-        return std::num::wrapping_add_usize(at, 1);
-    }
-    at
-}
-
-fn put(words: &mut [u32], at: usize, x: u32)
+fn put_word(words: &mut [u32], at: usize, x: u32)
     ensures { λ _. ⌜ length (now (words .exit)) ≡ length (now (words .entry)) ⌝ }
 {
     if at < words.len() {
@@ -48,30 +71,55 @@ fn put(words: &mut [u32], at: usize, x: u32)
     }
 }
 
-// How far a text is read: the place of the word that is being read, and its value so far.
-pub struct Reading {
-    pub at: usize,
-    pub value: u32,
+// How far a text is read: what its last byte stands in, the place of the word that is being read or comes next, and its value so far.
+struct Reading {
+    part: u32,
+    at: usize,
+    value: u32,
 }
 
-// The words of a stretch of text, decimals or `-`, each with one space or newline after it.
-pub fn read_words(r: Reading, text: &[u8], words: &mut [u32]) -> Reading {
+// The words of a stretch of text: decimals or `-`, with blanks, newlines and comments between them.
+fn read_words(r: Reading, text: &[u8], words: &mut [u32]) -> Reading {
+    let mut part = r.part;
     let mut at = r.at;
     let mut value = r.value;
     let mut i = 0;
     while i < text.len() {
-        value = next_value(value, text[i]);
-        at = next_place(at, text[i]);
-        put(words, at, value);
+        let next = next_part(part, text[i]);
+        at = next_place(at, part, next);
+        value = next_value(value, next, text[i]);
+        put_word(words, at, value);
+        part = next;
         i += 1;
     }
     Reading {
+        part: part,
         at: at,
         value: value,
     }
 }
 
-// The word `far` places after `at`.
+fn read_some(r: Reading, words: &mut [u32]) -> Reading {
+    let mut text = [0u8; 65536];
+    let got = io::read_full(STDIN_FILENO, &mut text);
+    read_words(r, &text[..got], words)
+}
+
+// The words of standard input, of which at most 2^20 bytes are read. Words that are not there stay as they are.
+pub fn read_input(words: &mut [u32]) {
+    let mut r = Reading {
+        part: BLANK,
+        at: 0,
+        value: 0,
+    };
+    let mut left: u32 = 16;
+    while 0 < left {
+        r = read_some(r, words);
+        left -= 1;
+    }
+}
+
+// The word `far` places after `at`; 0 beyond the last.
 pub fn word_at(words: &[u32], at: usize, far: usize) -> u32 {
     let i = std::num::wrapping_add_usize(at, far);
     if i < words.len() {
@@ -83,17 +131,6 @@ pub fn word_at(words: &[u32], at: usize, far: usize) -> u32 {
 pub fn number_at(words: &[u32], at: usize, far: usize) -> usize {
     let x = word_at(words, at, far);
     x as usize
-}
-
-// A length that fits a slice of `most`.
-pub fn length_at(words: &[u32], at: usize, far: usize, most: usize) -> usize
-    ensures { λ r. ⌜ r ≤ most ⌝ }
-{
-    let x = number_at(words, at, far);
-    if x < most {
-        return x;
-    }
-    most
 }
 
 // The words from `at` on, as many as `list` has room for.
@@ -152,7 +189,7 @@ fn at_least(x: f32, low: u32, step: u32) -> u32 {
 }
 
 // The whole number that a distance is, below 2^24; 2^24 - 1 for any float beyond or NaN.
-pub fn whole(x: f32) -> u32 {
+pub fn float_word(x: f32) -> u32 {
     let mut low: u32 = 0;
     let mut step: u32 = 8388608;
     while 0 < step {
@@ -166,26 +203,51 @@ pub fn floats_sum(xs: &[f32]) -> u32 {
     let mut sum: u32 = 2166136261;
     let mut i = 0;
     while i < xs.len() {
-        sum = mixed(sum, whole(xs[i]));
+        sum = mixed(sum, float_word(xs[i]));
         i += 1;
     }
     sum
 }
 
-// The alphas that the cases name: NaN, below 1, 1, the default, to the limit, and beyond it.
-pub fn alpha(i: u32) -> f32 {
-    match i {
-        0 => 0.0 / 0.0,
-        1 => -3.0,
-        2 => 0.5,
-        3 => 1.0,
-        4 => 1.2,
-        5 => 1.25,
-        6 => 2.0,
-        7 => 3.7,
-        8 => 4.0,
-        9 => 4.0000005,
-        10 => 1.0 / 0.0,
-        _ => 100.0,
+pub fn say(text: &[u8]) {
+    io::write_all(STDOUT_FILENO, text);
+}
+
+pub fn say_number(x: u64) {
+    io::print_decimal(STDOUT_FILENO, x);
+}
+
+// A number with a space after it.
+pub fn say_field(x: u64) {
+    say_number(x);
+    say(b" ");
+}
+
+// A space and a word of a table, `-` for padding.
+pub fn say_word(x: u32) {
+    say(b" ");
+    if x == PADDING {
+        say(b"-");
+    } else {
+        say_number(x as u64);
+    }
+}
+
+// A row ends after each `width` words.
+fn end_row(i: usize, width: usize) {
+    if width == 0 {
+        return;
+    }
+    if i % width == 0 {
+        say(b"\n");
+    }
+}
+
+pub fn say_rows(xs: &[u32], width: usize) {
+    let mut i = 0;
+    while i < xs.len() {
+        say_word(xs[i]);
+        i += 1;
+        end_row(i, width);
     }
 }

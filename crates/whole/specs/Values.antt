@@ -1,7 +1,7 @@
 -- What f32's own operations do with two whole values, beyond 2 ^ 24 too: they compare as the numbers do, and their sum and quotient are the numbers' sum and
 -- quotient, rounded once. The only file here that opens the operations. Assumes nothing.
 use mathlib.Core.Path.{_≡_, refl, sym, ap, _∙_, subst}
-use mathlib.Core.Bool.{Bool, true, false, _&&_, true≢false}
+use mathlib.Core.Bool.{Bool, true, false, true≢false, and-true}
 use Prim.Native.Nat.{ℕ, _+_, _*_, _<_}
 use native.Mathlib.Nat.{mul-one, mul-comm, mul-assoc, add-mul, mul-pos, zero-lt-suc, zero-mul, lt-irrefl}
 use native.Mathlib.Nat.{mul-lt-mul-of-pos-right, lt-of-mul-lt-mul-right, eq-of-mul-eq-mul-right}
@@ -37,10 +37,6 @@ over m e d a h = ap (λ (x : ℕ). x * down d) (sym (mul-one (m * up e)) ∙ h) 
 
 other : (n : ℕ) (e d : ℤ) (b : ℕ) → n * up d * 1 ≡ b * down d → n * up d * down e ≡ b * (down e * down d)
 other n e d b h = over n d e b h ∙ ap (λ (x : ℕ). b * x) (mul-comm (down d) (down e))
-
-and-true : (b : Bool) → (b && true) ≡ b
-and-true true = refl
-and-true false = refl
 
 -- a value above zero has an m that is not 0
 nonzero : (n : ℕ) (d : ℤ) (b : ℕ) → n * up d * 1 ≡ b * down d → 0 < b → eqb n 0 ≡ false

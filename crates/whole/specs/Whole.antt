@@ -90,7 +90,8 @@ beyond s (suc m) e n f v l =
     let b = ltb (suc m) (2 ^ 24) in
     let c = leb (down e) (2 ^ 149) in
     let d = ltb (suc m * up e) (2 ^ 128 * down e) in
-    at e (ltb→lt (suc m) (2 ^ 24) (and-r a b (and-l (a && b) c (and-l (a && b && c) d f)))) (ltb→lt (suc m * up e) (2 ^ 128 * down e) (and-r (a && b && c) d f)) v
+    let short = ltb→lt (suc m) (2 ^ 24) (and-r a b (and-l (a && b) c (and-l (a && b && c) d f))) in
+    at e short (ltb→lt (suc m * up e) (2 ^ 128 * down e) (and-r (a && b && c) d f)) v
   where
     at : (e : ℤ) → suc m < 2 ^ 24 → suc m * up e < 2 ^ 128 * down e → suc m * up e * 1 ≡ n * down e → HasValue (whole n) false n 1
     at (pos k) s hi v = subst (λ (x : ℕ). HasValue (whole x) false x 1) (sym (mul-one (suc m * 2 ^ k)) ∙ v ∙ mul-one n) (scaled (suc m) k s hi)

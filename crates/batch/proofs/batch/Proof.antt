@@ -1,9 +1,37 @@
--- `batch`: the number, the run, the room.
-use mathlib.Core.Path.{refl, sym, _∙_}
+-- `batch` meets its contract: the number, the run, the room.
+use mathlib.Core.Path.{_≡_, refl, sym, _∙_}
 use borrow.Author.Needs.{needs}
-use Rattle.batch.specs.Batched.{batchCall, batch-degree, batch-ready, batch-room, batch-done, batch-refused}
+use Rattle.definition.specs.Refusals.{BatchCall, batchNumber}
+use Rattle.batch.specs.Batched.{batch-degree, batch-ready, batch-room, batch-done, batch-refused}
 use Rattle.batch.proofs.batch.Statement.{statement}
 use Rattle.batch.proofs.batch.Tie as tie
+
+-- all that the call is given and lent
+abbrev call : tie.Start → BatchCall
+call s =
+    let a = s .args in
+    record {
+      n = a .n;
+      dim = a .dim;
+      vectors = a .vectors .now;
+      params = a .params;
+      start = a .start;
+      nodes = a .nodes .now;
+      seeds = a .seeds .now;
+      wide = a .wide .now;
+      words = a .words .now;
+      floats = a .floats .now;
+    }
+
+-- from the number back to the call
+abbrev called : tie.After-batch-number → tie.Start
+called c = c .before .before .before .before .before .before .before .before
+
+numbered : (c : tie.After-batch-number) → c .batch-number .result ≡ batchNumber (call (called c))
+numbered c = c .batch-number .ensures .is (called c .args .words .now) (called c .args .floats .now) refl refl
+
+accepted : (c : tie.Else1) → batchNumber (call (called (c .before))) ≡ 0
+accepted c = sym (numbered (c .before)) ∙ c .if1 .left
 
 batch-number-requires : tie.Need-batch-number-requires
 batch-number-requires c κs = search needs
@@ -15,16 +43,21 @@ same-length : tie.Need-same-length
 same-length c = search needs
 
 returns : tie.Need-returns
-returns c = let s = c .before .before .before .before .before .before .before .before .before .before in let d = batchCall (s .args .n) (s .args .dim) (s .args .vectors .now) (s .args .params) (s .args .start) (s .args .nodes .now) (s .args .seeds .now) (s .args .wide .now) (s .args .words .now) (s .args .floats .now) in batch-refused d _ _ (c .before .before .batch-number .ensures .is (s .args .words .now) (s .args .floats .now) refl refl) (c .before .if1 .taken) (c .refused .ensures)
+returns c = batch-refused (numbered (c .before .before)) (c .before .if1 .taken) (c .refused .ensures)
 
 slack-requires : tie.Need-slack-requires
-slack-requires c κs = let s = c .before .before .before .before .before .before .before .before .before in let d = batchCall (s .args .n) (s .args .dim) (s .args .vectors .now) (s .args .params) (s .args .start) (s .args .nodes .now) (s .args .seeds .now) (s .args .wide .now) (s .args .words .now) (s .args .floats .now) in batch-degree d (sym (c .before .batch-number .ensures .is (s .args .words .now) (s .args .floats .now) refl refl) ∙ c .if1 .left)
+slack-requires c κs = batch-degree (call (called (c .before))) (accepted c)
 
 run-batch-requires : tie.Need-run-batch-requires
-run-batch-requires c κs = let s = c .before .before .before .before .before .before .before .before .before .before .before .before .before in let d = batchCall (s .args .n) (s .args .dim) (s .args .vectors .now) (s .args .params) (s .args .start) (s .args .nodes .now) (s .args .seeds .now) (s .args .wide .now) (s .args .words .now) (s .args .floats .now) in batch-ready d (sym (c .before .before .before .before .before .batch-number .ensures .is (s .args .words .now) (s .args .floats .now) refl refl) ∙ c .before .before .before .before .if1 .left) _ (c .before .before .before .slack .ensures)
+run-batch-requires c κs =
+    let taken = c .before .before .before .before in
+    batch-ready (call (called (taken .before))) (accepted taken) (c .before .before .before .slack .ensures)
 
 clear-room-requires : tie.Need-clear-room-requires
-clear-room-requires c κs = let s = c .before .before .before .before .before .before .before .before .before .before .before .before .before .before .before .before .before .before .before .before .before .before in let d = batchCall (s .args .n) (s .args .dim) (s .args .vectors .now) (s .args .params) (s .args .start) (s .args .nodes .now) (s .args .seeds .now) (s .args .wide .now) (s .args .words .now) (s .args .floats .now) in batch-room d (sym (c .before .before .before .before .before .before .before .before .before .before .before .before .before .before .batch-number .ensures .is (s .args .words .now) (s .args .floats .now) refl refl) ∙ c .before .before .before .before .before .before .before .before .before .before .before .before .before .if1 .left) _ _ _ (c .before .before .before .before .before .before .before .before .run-batch .ensures)
+clear-room-requires c κs =
+    let run = c .before .before .before .before .before .before .before .before in
+    let taken = run .before .before .before .before .before in
+    batch-room (call (called (taken .before))) (accepted taken) (run .run-batch .ensures)
 
 done-requires : tie.Need-done-requires
 done-requires c κs = search needs
@@ -39,7 +72,11 @@ same-length-4 : tie.Need-same-length-4
 same-length-4 c = search needs
 
 returns-2 : tie.Need-returns-2
-returns-2 c = let s = c .before .before .before .before .before .before .before .before .before .before .before .before .before .before .before .before .before .before .before .before .before .before .before .before .before .before .before .before in let d = batchCall (s .args .n) (s .args .dim) (s .args .vectors .now) (s .args .params) (s .args .start) (s .args .nodes .now) (s .args .seeds .now) (s .args .wide .now) (s .args .words .now) (s .args .floats .now) in batch-done d (sym (c .before .before .before .before .before .before .before .before .before .before .before .before .before .before .before .before .before .before .before .before .batch-number .ensures .is (s .args .words .now) (s .args .floats .now) refl refl) ∙ c .before .before .before .before .before .before .before .before .before .before .before .before .before .before .before .before .before .before .before .if1 .left) _ _ _ (c .before .before .before .before .before .before .before .before .before .before .before .before .before .before .run-batch .ensures) _ _ _ (c .done .ensures) (c .before .before .before .before .before .clear-room .ensures)
+returns-2 c =
+    let cleared = c .before .before .before .before .before in
+    let run = cleared .before .before .before .before .before .before .before .before .before in
+    let taken = run .before .before .before .before .before in
+    batch-done (call (called (taken .before))) (accepted taken) (run .run-batch .ensures) (c .done .ensures) (cleared .clear-room .ensures)
 
 pub batch-spec : {M : Type 1} → statement M
 batch-spec =

@@ -1,17 +1,18 @@
--- `run_batch`: marks cleared, fresh rows, merge.
+-- `run_batch` meets its contract: marks and stamps cleared, fresh rows, merge.
 use borrow.Author.Needs.{needs}
 use Rattle.batch.proofs.Running.{fresh-asks, merge-asks, batch-run}
 use Rattle.batch.proofs.run_batch.Statement.{statement}
 use Rattle.batch.proofs.run_batch.Tie as tie
 
-mul-a : tie.Need-mul-a
-mul-a c = search needs
+-- from the marks cleared back to the call
+abbrev called : tie.After-clear-words → tie.Start
+called c = c .before .before .before .before .before .before .before .before .before .before
 
-add-a : tie.Need-add-a
-add-a c = search needs
+stamps-at-requires : tie.Need-stamps-at-requires
+stamps-at-requires c κs = search needs
 
-add-e : tie.Need-add-e
-add-e c = search needs
+stamps-end-requires : tie.Need-stamps-end-requires
+stamps-end-requires c κs = search needs
 
 sub-clear-words : tie.Need-sub-clear-words
 sub-clear-words c = search needs
@@ -41,10 +42,19 @@ clear-words-requires-2 : tie.Need-clear-words-requires-2
 clear-words-requires-2 c κs = search needs
 
 fresh-rows-requires : tie.Need-fresh-rows-requires
-fresh-rows-requires c κs = fresh-asks _ _ _ _ _ _ _ _ _ _ _ (c .before .before .before .before .before .before .before .before .before .before .before .before .before .before .before .before .before .pre) _ _ (c .before .before .before .before .before .before .before .before .before .clear-words .ensures) (c .before .before .before .before .before .clear-words2 .ensures)
+fresh-rows-requires c κs =
+    let stamps = c .before .before .before .before .before .clear-words2 in
+    let marks = c .before .before .before .before .before .before .before .before .before in
+    fresh-asks (called marks .pre) (marks .before .before .before .stamps-at .ensures) (marks .before .before .stamps-end .ensures)
+    _ _ (marks .clear-words .ensures) (stamps .ensures)
 
 merge-requires : tie.Need-merge-requires
-merge-requires c κs = merge-asks _ _ _ _ _ _ _ _ _ _ _ (c .before .before .before .before .before .before .before .before .before .before .before .before .before .before .before .before .before .before .before .before .before .before .before .before .before .pre) _ _ (c .before .before .before .before .before .before .before .before .before .before .before .before .before .before .before .before .before .clear-words .ensures) (c .before .before .before .before .before .before .before .before .before .before .before .before .before .clear-words2 .ensures) _ _ (c .before .before .before .before .before .before .before .fresh-rows .ensures)
+merge-requires c κs =
+    let rows = c .before .before .before .before .before .before .before in
+    let stamps = rows .before .before .before .before .before .before .clear-words2 in
+    let marks = rows .before .before .before .before .before .before .before .before .before .before in
+    merge-asks (called marks .pre) (marks .before .before .before .stamps-at .ensures) (marks .before .before .stamps-end .ensures)
+    _ _ (marks .clear-words .ensures) (stamps .ensures) (rows .fresh-rows .ensures)
 
 same-length : tie.Need-same-length
 same-length c = search needs
@@ -56,15 +66,20 @@ same-length-3 : tie.Need-same-length-3
 same-length-3 c = search needs
 
 returns : tie.Need-returns
-returns c = batch-run _ _ _ _ _ _ _ _ _ _ _ (c .before .before .before .before .before .before .before .before .before .before .before .before .before .before .before .before .before .before .before .before .before .before .before .before .before .before .before .before .before .before .before .before .pre) _ _ (c .before .before .before .before .before .before .before .before .before .before .before .before .before .before .before .before .before .before .before .before .before .before .before .before .clear-words .ensures) (c .before .before .before .before .before .before .before .before .before .before .before .before .before .before .before .before .before .before .before .before .clear-words2 .ensures) _ _ (c .before .before .before .before .before .before .before .before .before .before .before .before .before .before .fresh-rows .ensures) _ _ _ (c .before .before .before .before .before .before .merge .ensures)
+returns c =
+    let merged = c .before .before .before .before .before .before in
+    let rows = merged .before .before .before .before .before .before .before .before in
+    let stamps = rows .before .before .before .before .before .before .clear-words2 in
+    let marks = rows .before .before .before .before .before .before .before .before .before .before in
+    batch-run (called marks .pre) (marks .before .before .before .stamps-at .ensures) (marks .before .before .stamps-end .ensures)
+    _ _ (marks .clear-words .ensures) (stamps .ensures) (rows .fresh-rows .ensures) (merged .merge .ensures)
 
 pub run-batch-spec : {M : Type 1} → statement M
 run-batch-spec =
     tie.close
     (tie.spec
-    mul-a
-    add-a
-    add-e
+    stamps-at-requires
+    stamps-end-requires
     sub-clear-words
     part-clear-words-start
     part-clear-words-end

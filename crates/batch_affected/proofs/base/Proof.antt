@@ -1,7 +1,7 @@
--- `base`: a part of either table.
-use Rattle.batch_affected.proofs.Gathering.{base-wide, base-fresh}
+-- `base` meets its contract: the part that is lent is the row of the wide table, or the fresh row.
 use native.Mathlib.Omega.{arith}
 use borrow.Author.Needs.{needs}
+use Rattle.batch_affected.proofs.Gathering.{base-wide, base-fresh}
 use Rattle.batch_affected.proofs.base.Statement.{statement}
 use Rattle.batch_affected.proofs.base.Tie as tie
 
@@ -26,11 +26,8 @@ part-result-end c = search needs
 sub-p : tie.Need-sub-p
 sub-p c = search needs
 
-mul-a-2 : tie.Need-mul-a-2
-mul-a-2 c = search needs
-
-add-a : tie.Need-add-a
-add-a c = search needs
+fresh-row-at-requires : tie.Need-fresh-row-at-requires
+fresh-row-at-requires c κs = search needs
 
 add-e-2 : tie.Need-add-e-2
 add-e-2 c = search needs
@@ -48,10 +45,10 @@ part-result-end-2 : tie.Need-part-result-end-2
 part-result-end-2 c = search needs
 
 returns : tie.Need-returns
-returns c = base-wide _ _ _ _ _ _ (omega arith)
+returns c = base-wide _ _ _ _ _ (omega arith)
 
 returns-2 : tie.Need-returns-2
-returns-2 c = base-fresh _ _ _ _ _ _ (λ e. omega arith)
+returns-2 c = base-fresh _ _ _ _ _ (λ e. omega arith) (c .before .fresh-row-at .ensures)
 
 pub base-spec : {M : Type 1} → statement M
 base-spec =
@@ -64,8 +61,7 @@ base-spec =
     part-result-start
     part-result-end
     sub-p
-    mul-a-2
-    add-a
+    fresh-row-at-requires
     add-e-2
     mul-result-2
     sub-result-2

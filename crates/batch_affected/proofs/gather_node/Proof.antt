@@ -1,9 +1,13 @@
--- `gather_node`: the merged ids of one node.
-use Rattle.batch_affected.proofs.Gathering.{base-asks-at, row-asks, naming-asks, all-gathered}
+-- `gather_node` meets its contract: the seat, the base's ids, then the chain's nodes.
 use native.Mathlib.Omega.{arith}
 use borrow.Author.Needs.{needs}
+use Rattle.batch_affected.proofs.Gathering.{base-asks, row-asks, naming-asks, all-gathered}
 use Rattle.batch_affected.proofs.gather_node.Statement.{statement}
 use Rattle.batch_affected.proofs.gather_node.Tie as tie
+
+-- from where the seat was read back to the call
+abbrev called : tie.After-index-of2 → tie.Start
+called c = c .before .before .before .before .before .before .before
 
 index-of-requires : tie.Need-index-of-requires
 index-of-requires c κs = search needs
@@ -21,19 +25,34 @@ index-of-requires-2 : tie.Need-index-of-requires-2
 index-of-requires-2 c κs = search needs
 
 base-requires : tie.Need-base-requires
-base-requires c κs = base-asks-at _ _ _ _ _ _ _ (c .before .before .before .before .before .before .before .pre .1) (omega arith) (omega arith) _ (c .before .before .before .before .before .before .before .pre .0 .3) _ _ (c .before .before .index-of .ensures) (c .index-of2 .ensures)
+base-requires c κs =
+    let s = called c in
+    base-asks (s .pre .1) (s .pre .0 .0) (s .pre .0 .1) _ _ (c .before .before .index-of .ensures) (c .index-of2 .ensures) _ (s .pre .0 .3)
 
 add-row-requires : tie.Need-add-row-requires
-add-row-requires c κs = row-asks _ _ _ _ _ _ _ _ (c .before .before .before .before .before .before .before .before .before .pre .1) (omega arith) (omega arith) (omega arith) _ _ (c .before .before .before .before .index-of .ensures) (c .before .before .index-of2 .ensures) _ (c .before .base .ensures) _ (omega arith)
+add-row-requires c κs =
+    let seated = c .before .before in
+    let s = called seated in
+    row-asks (s .pre .1) (s .pre .0 .0) (s .pre .0 .1) _ _ (seated .before .before .index-of .ensures) (seated .index-of2 .ensures)
+    _ _ (c .before .base .ensures) _ (omega arith)
 
 add-naming-requires : tie.Need-add-naming-requires
-add-naming-requires c κs = naming-asks _ _ _ _ _ _ _ _ (c .before .before .before .before .before .before .before .before .before .before .before .before .before .pre .1) (omega arith) (omega arith) (omega arith) _ _ (c .before .before .before .before .before .before .before .before .index-of .ensures) (c .before .before .before .before .before .before .index-of2 .ensures) _ (c .before .before .before .before .before .base .ensures) _ _ _ (c .before .before .before .add-row .ensures) (omega arith)
+add-naming-requires c κs =
+    let seated = c .before .before .before .before .before .before in
+    let s = called seated in
+    naming-asks (s .pre .1) (s .pre .0 .0) (s .pre .0 .1) _ _ (seated .before .before .index-of .ensures) (seated .index-of2 .ensures)
+    _ _ (c .before .before .before .before .before .base .ensures) (c .before .before .before .add-row .ensures) (omega arith)
 
 same-length : tie.Need-same-length
 same-length c = search needs
 
 returns : tie.Need-returns
-returns c = all-gathered _ _ _ _ _ _ _ _ (c .before .before .before .before .before .before .before .before .before .before .before .before .before .before .before .before .pre .1) (omega arith) (omega arith) (omega arith) _ _ (c .before .before .before .before .before .before .before .before .before .before .before .index-of .ensures) (c .before .before .before .before .before .before .before .before .before .index-of2 .ensures) _ (c .before .before .before .before .before .before .before .before .base .ensures) _ _ _ (c .before .before .before .before .before .before .add-row .ensures) _ _ (c .before .before .add-naming .ensures)
+returns c =
+    let read = c .before .before .before .before .before .before .before .before in
+    let seated = read .before in
+    let s = called seated in
+    all-gathered (s .pre .1) (s .pre .0 .0) (s .pre .0 .1) _ _ (seated .before .before .index-of .ensures) (seated .index-of2 .ensures)
+    _ _ (read .base .ensures) (c .before .before .before .before .before .before .add-row .ensures) (c .before .before .add-naming .ensures)
 
 pub gather-node-spec : {M : Type 1} → statement M
 gather-node-spec =

@@ -1,18 +1,26 @@
--- `add_naming`: the walk along one chain.
-use Rattle.batch_chains.proofs.Along.{Along, along-start, along-on, along-less, along-end}
+-- `add_naming` meets its contract. The invariant: what the chain has still to give, put in after what is in the list, gives all that name the node.
 use native.Mathlib.Omega.{arith}
 use borrow.Author.Needs.{needs}
+use Rattle.given.specs.Fresh.{merging}
+use Rattle.batch_chains.proofs.Along.{front, Along, along-start, along-on, along-less, along-end}
 use Rattle.batch_chains.proofs.add_naming.Statement.{statement}
 use Rattle.batch_chains.proofs.add_naming.Tie as tie
 
 abbrev Inv-loop : tie.InvT-loop
-Inv-loop words n links fresh nodes node list₀ len own e₀ count₀ list e count = Along words fresh nodes node list₀ len list count e
+Inv-loop words n nodes node list₀ len own links e₀ count₀ list e count = Along (merging n nodes words) node (front list₀ len) (front list count) e
 
 abbrev μ-loop : tie.MeasureT-loop
-μ-loop words n links fresh nodes node list₀ len own e₀ count₀ list e count = e
+μ-loop words n nodes node list₀ len own links e₀ count₀ list e count = e
+
+-- from a turn of the loop back to the call
+abbrev called : (tie.At-loop Inv-loop μ-loop) → (tie.Start Inv-loop μ-loop)
+called c = c .before .before .before .before .before .before .before .before
 
 index-of-requires : tie.Need-index-of-requires Inv-loop μ-loop
 index-of-requires c κs = search needs
+
+links-at-requires : tie.Need-links-at-requires Inv-loop μ-loop
+links-at-requires c κs = search needs
 
 mul-index-of : tie.Need-mul-index-of Inv-loop μ-loop
 mul-index-of c = search needs
@@ -24,7 +32,9 @@ index-of-requires-2 : tie.Need-index-of-requires-2 Inv-loop μ-loop
 index-of-requires-2 c κs = search needs
 
 loop-holds : tie.Need-loop-holds Inv-loop μ-loop
-loop-holds c = along-start _ _ _ _ _ _ _ _ (omega arith) (c .before .before .before .before .before .before .pre .1 .1 .0) (c .before .before .before .before .before .before .pre .1 .1 .1 .0) _ _ (c .before .before .index-of .ensures) (c .index-of2 .ensures) (c .before .before .before .before .before .before .pre .1 .1 .1 .1)
+loop-holds c =
+    let s = c .before .before .before .before .before .before .before in
+    along-start (s .pre .0 .0) (s .pre .1 .0) (c .before .before .before .index-of .ensures) (c .index-of2 .ensures) (s .pre .1 .1)
 
 sub-a : tie.Need-sub-a Inv-loop μ-loop
 sub-a c = search needs
@@ -51,16 +61,26 @@ index-of-requires-3 : tie.Need-index-of-requires-3 Inv-loop μ-loop
 index-of-requires-3 c κs = search needs
 
 loop-less : tie.Need-loop-less Inv-loop μ-loop
-loop-less c = along-less _ _ _ _ _ _ _ _ (omega arith) (c .before .before .before .before .before .before .before .before .before .before .before .before .before .before .before .pre .1 .1 .0) (c .before .before .before .before .before .before .before .before .before .before .before .before .before .before .before .pre .1 .1 .1 .0) _ _ _ _ _ (c .before .before .before .before .before .before .before .before .loop .inv) (omega arith) (c .index-of3 .ensures)
+loop-less c =
+    let turn = c .before .before .before .before .before .before .before .before in
+    let s = called turn in
+    along-less (s .pre .0 .0) (s .pre .1 .0) (turn .loop .inv) (omega arith) (turn .before .before .before .links-at .ensures) (c .index-of3 .ensures)
 
 loop-again : tie.Need-loop-again Inv-loop μ-loop
-loop-again c = along-on _ _ _ _ _ _ _ _ (omega arith) (c .before .before .before .before .before .before .before .before .before .before .before .before .before .before .before .pre .1 .1 .0) (c .before .before .before .before .before .before .before .before .before .before .before .before .before .before .before .pre .1 .1 .1 .0) _ _ _ _ _ _ _ (c .before .before .before .before .before .before .before .before .loop .inv) (omega arith) (c .before .before .before .before .add-word .ensures) (omega arith) (c .index-of3 .ensures)
+loop-again c =
+    let turn = c .before .before .before .before .before .before .before .before in
+    let s = called turn in
+    along-on (s .pre .0 .0) (s .pre .1 .0) (turn .loop .inv) (omega arith) (turn .before .before .before .links-at .ensures) (c .index-of3 .ensures)
+    (c .before .before .before .before .add-word .ensures) (omega arith)
 
 same-length : tie.Need-same-length Inv-loop μ-loop
 same-length c = search needs
 
 returns : tie.Need-returns Inv-loop μ-loop
-returns c = along-end _ _ _ _ _ _ _ _ (omega arith) (c .before .before .before .before .before .before .before .before .pre .1 .1 .0) (c .before .before .before .before .before .before .before .before .pre .1 .1 .1 .0) _ _ _ (c .before .loop .inv) (λ h. omega arith)
+returns c =
+    let turn = c .before in
+    let s = called turn in
+    along-end (s .pre .0 .0) (s .pre .1 .0) (turn .loop .inv) (λ h. omega arith)
 
 pub add-naming-spec : {M : Type 1} → statement M
 add-naming-spec =
@@ -69,6 +89,7 @@ add-naming-spec =
     Inv-loop
     μ-loop
     index-of-requires
+    links-at-requires
     mul-index-of
     shared-slice-read-index-of
     index-of-requires-2

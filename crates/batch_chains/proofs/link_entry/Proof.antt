@@ -1,11 +1,13 @@
--- `link_entry`: one entry at the front of its chain.
-use Rattle.batch_chains.proofs.Chaining.{one-linked}
-use mathlib.Core.Path.{refl}
+-- `link_entry` meets its contract: what is read is the entry, and two words are set, the link and then the head.
 use native.Mathlib.Omega.{arith}
 use lib.ListN.{length-set}
 use borrow.Author.Needs.{needs}
+use Rattle.batch_chains.proofs.Chaining.{one-past, one-linked}
 use Rattle.batch_chains.proofs.link_entry.Statement.{statement}
 use Rattle.batch_chains.proofs.link_entry.Tie as tie
+
+fresh-at-requires : tie.Need-fresh-at-requires
+fresh-at-requires c κs = search needs
 
 add-at : tie.Need-add-at
 add-at c = search needs
@@ -20,7 +22,10 @@ index-of-requires : tie.Need-index-of-requires
 index-of-requires c κs = search needs
 
 returns : tie.Need-returns
-returns c = record { past = λ h. refl; linked = λ h. absurd (omega arith) }
+returns c = one-past _ _ _ (c .before .before .before .fresh-at .ensures) (c .before .index-of .ensures) (omega arith)
+
+links-at-requires : tie.Need-links-at-requires
+links-at-requires c κs = search needs
 
 add-to : tie.Need-add-to
 add-to c = search needs
@@ -53,17 +58,21 @@ same-length : tie.Need-same-length
 same-length c = search needs
 
 returns-2 : tie.Need-returns-2
-returns-2 c = one-linked _ _ _ _ _ _ (c .before .before .index-of .ensures) (omega arith)
+returns-2 c =
+    let target = c .before .before .before in
+    one-linked _ _ _ (target .before .before .fresh-at .ensures) (target .index-of .ensures) (c .before .links-at .ensures) (omega arith)
 
 pub link-entry-spec : {M : Type 1} → statement M
 link-entry-spec =
     tie.close
     (tie.spec
+    fresh-at-requires
     add-at
     mul-index-of
     slice-read-index-of
     index-of-requires
     returns
+    links-at-requires
     add-to
     mul-words
     slice-read-words

@@ -1,8 +1,10 @@
--- `seat_nodes`: the seats of the listed nodes.
-use Rattle.batch_chains.proofs.Chaining.{Seating, seating-start, seating-on, seating-end, seat-fits, seat-node}
+-- `seat_nodes` meets its contract. From the last place to the first: the invariant has the seats of the nodes from p on, so a repeated one keeps its first.
 use mathlib.Core.Path.{refl}
+use Prim.Native.Nat.{_<_}
 use native.Mathlib.Omega.{arith}
+use lib.ListN.{length}
 use borrow.Author.Needs.{needs}
+use Rattle.batch_chains.proofs.Chaining.{Seating, seating-start, seating-on, seating-end, seat-fits, seat-node}
 use Rattle.batch_chains.proofs.seat_nodes.Statement.{statement}
 use Rattle.batch_chains.proofs.seat_nodes.Tie as tie
 
@@ -13,7 +15,7 @@ abbrev μ-loop : tie.MeasureT-loop
 μ-loop nodes slots₀ p₀ slots p = p
 
 loop-holds : tie.Need-loop-holds Inv-loop μ-loop
-loop-holds c = seating-start _ _ _ refl (c .before .before .pre .1 .1)
+loop-holds c = seating-start refl (c .before .before .pre .1 .1)
 
 sub-q : tie.Need-sub-q Inv-loop μ-loop
 sub-q c = search needs
@@ -30,23 +32,30 @@ index-of-requires c κs = search needs
 cast-slots : tie.Need-cast-slots Inv-loop μ-loop
 cast-slots c = omega arith
 
+-- the node that is read has a slot
+slot : (c : (tie.After-index-of Inv-loop μ-loop)) → c .index-of .result < length (c .before .before .before .loop .slots)
+slot c = seat-fits (c .before .before .before .before .before .before .pre .1 .0) (c .before .before .before .loop .inv) (omega arith) (c .index-of .ensures)
+
 mul-slots : tie.Need-mul-slots Inv-loop μ-loop
-mul-slots c = omega (arith, seat-fits (c .before .before .before .before .before .before .pre .1 .0) (c .before .before .before .loop .inv) (omega arith) (c .index-of .ensures))
+mul-slots c = omega (arith, slot c)
 
 slice-write-slots : tie.Need-slice-write-slots Inv-loop μ-loop
-slice-write-slots c = seat-fits (c .before .before .before .before .before .before .pre .1 .0) (c .before .before .before .loop .inv) (omega arith) (c .index-of .ensures)
+slice-write-slots c = slot c
 
 loop-less : tie.Need-loop-less Inv-loop μ-loop
 loop-less c = omega arith
 
 loop-again : tie.Need-loop-again Inv-loop μ-loop
-loop-again c = seating-on _ _ _ _ _ (c .before .before .before .loop .inv) (omega arith) (c .index-of .ensures) (seat-node _ _ _ _ (c .before .before .before .before .before .before .pre .1 .0) (c .before .before .before .loop .inv) (omega arith) (c .index-of .ensures))
+loop-again c =
+    let s = c .before .before .before .loop .inv in
+    let is = c .index-of .ensures in
+    seating-on _ s (omega arith) is (seat-node (c .before .before .before .before .before .before .pre .1 .0) s (omega arith) is)
 
 same-length : tie.Need-same-length Inv-loop μ-loop
 same-length c = search needs
 
 returns : tie.Need-returns Inv-loop μ-loop
-returns c = seating-end _ _ _ _ (c .before .loop .inv) (λ h. omega arith)
+returns c = seating-end (c .before .loop .inv) (λ h. omega arith)
 
 pub seat-nodes-spec : {M : Type 1} → statement M
 seat-nodes-spec =

@@ -1,21 +1,31 @@
--- `node_pool` meets its contract. No mark is the stamp yet, so the pool begins empty; the part lent as the query is the node's vector.
-use mathlib.Core.Path.{subst}
-use Prim.Native.Nat.{ℕ, _+_}
+-- `node_pool` meets its contract. No stamp is the node's yet, so the pool begins empty; the part lent as the query is the node's vector.
+use mathlib.Core.Path.{_≡_, subst}
+use Prim.Native.Nat.{ℕ, _+_, _*_, _≤_}
 use native.Mathlib.Omega.{arith}
-use borrow.Author.Needs.{needs}
 use mathlib.Core.List.{List}
+use lib.ListN.{length}
+use borrow.Author.Needs.{needs}
 use Rattle.definition.specs.Metric.{fromQuery}
-use Rattle.metric.specs.Laws.{entry-fits, vector-in, lent-vector, lent-length}
-use Rattle.batch_pool.specs.Regions.{Grown, pooledIds}
-use Rattle.batch_fresh.proofs.Making.{slack-small, holding-blank}
+use Rattle.metric.specs.Laws.{vector-in, lent-vector, lent-length}
+use Rattle.given.specs.Given.{given, degree-slack}
+use Rattle.batch_pool.specs.Regions.{stage, Grown, pooledIds}
+use Rattle.batch_fresh.specs.Made.{planOf}
+use Rattle.batch_fresh.proofs.Making.{holding-blank}
 use Rattle.batch_fresh.proofs.node_pool.Statement.{statement}
+use Rattle.laws.specs.Tables.{row-fits}
 use Rattle.batch_fresh.proofs.node_pool.Tie as tie
 
+-- the node's vector lies in the vectors
+fits : (c : tie.Start) → c .args .node * c .args .g .dim + c .args .g .dim ≤ length (c .args .vectors .now)
+fits c =
+    let a = c .args in
+    omega (arith, row-fits (a .node) (a .g .n) (a .g .dim) (c .pre .1 .1 .1 .node-in), c .pre .0 .limits .vectors-are)
+
 mul-at : tie.Need-mul-at
-mul-at c = let s = c .before .before .before .before .before in omega (arith, entry-fits (s .args .node) (s .args .n) (s .args .dim) (s .pre .1 .1 .1), s .pre .0 .vectors-are, s .good .1 .1 .0)
+mul-at c = let s = c .before .before .before .before .before in omega (arith, fits s, s .good .1 .0)
 
 add-end : tie.Need-add-end
-add-end c = let s = c .before .before .before .before .before in omega (arith, entry-fits (s .args .node) (s .args .n) (s .args .dim) (s .pre .1 .1 .1), s .pre .0 .vectors-are, s .good .1 .1 .0)
+add-end c = let s = c .before .before .before .before .before in omega (arith, fits s, s .good .1 .0)
 
 add-stamp : tie.Need-add-stamp
 add-stamp c = search needs
@@ -30,34 +40,45 @@ part-collect-pool-start : tie.Need-part-collect-pool-start
 part-collect-pool-start c = search needs
 
 part-collect-pool-end : tie.Need-part-collect-pool-end
-part-collect-pool-end c = let s = c .before .before .before .before .before .before .before in omega (arith, entry-fits (s .args .node) (s .args .n) (s .args .dim) (s .pre .1 .1 .1), s .pre .0 .vectors-are, s .good .1 .1 .0)
+part-collect-pool-end c = fits (c .before .before .before .before .before .before .before)
 
 collect-pool-requires : tie.Need-collect-pool-requires
 collect-pool-requires c κs =
     let s = c .before .before .before .before .before .before .before .before in
-    let v = vector-in (s .args .dim) (s .args .vectors .now) (s .args .n) (s .args .node) (s .pre .0 .vectors-are) (s .pre .1 .1 .1) in (
+    let a = s .args in
+    let limits = s .pre .0 .limits in
+    let i = s .pre .1 .1 .1 in
+    let v = vector-in (a .g .dim) (a .vectors .now) (a .g .n) (a .node) (limits .vectors-are) (i .node-in) in (
       record {
-        measures = record { vectors-are = s .pre .0 .vectors-are; query-is = lent-length (s .args .dim) (s .args .vectors .now) (s .args .node) v; few = s .pre .0 .dim-le };
-        size = s .pre .0 .size;
-        narrow = omega (arith, s .pre .0 .width-is, slack-small (s .args .params .degree) (s .pre .0 .degree-le));
-        rows = s .pre .0 .rows;
+        measures = record { vectors-are = limits .vectors-are; query-is = lent-length (a .g .dim) (a .vectors .now) (a .node) v; few = limits .dim-few };
+        size = s .pre .1 .0 .size;
+        narrow = omega (arith, degree-slack (a .g .params .degree) (a .g .slack) (limits .width-is) (limits .degree-few) .1);
+        rows = s .pre .1 .0 .words;
       },
-      (holding-blank (s .args .n) (s .args .params .beam) (s .args .epoch) (s .args .p) (s .args .words .now) (s .args .floats .now) (s .pre .1 .0), (s .pre .1 .1 .1, s .pre .1 .1 .2, s .pre .1 .1 .3)),
+      (holding-blank (s .pre .1 .1 .0), (i .node-in, i .start-in, i .seeds-in)),
     )
 
 returns : tie.Need-returns
 returns c =
-    let s = c .before .before .before .before .before .before .before .before .before .before .before .before .before in
     let k = c .before .before .before .before .collect-pool in
-    subst
-    (λ (v : List ℕ). Grown (s .args .n) (s .args .params .beam) (s .args .p + 1) (s .args .words .now) (s .args .floats .now) 0 (k .last .0) (k .last .1 .0) (k .result .epoch) (k .result .len) (pooledIds (fromQuery (s .args .dim) (s .args .vectors .now) v) (s .args .width) (s .args .wide .now) (s .args .n) (s .args .params .beam) (s .args .node) (s .args .start) (s .args .seeds .now)) (fromQuery (s .args .dim) (s .args .vectors .now) v))
-    (lent-vector (s .args .dim) (s .args .vectors .now) (s .args .node)) (k .ensures)
+    let s = c .before .before .before .before .before .before .before .before .before .before .before .before .before in
+    let a = s .args in
+    let plan = planOf (given (a .g) (a .vectors .now)) in
+    let from : List ℕ → ℕ → ℕ = fromQuery (a .g .dim) (a .vectors .now) in
+    record {
+      grown =
+          subst
+          (λ (v : List ℕ). Grown plan (k .result .epoch) (stage (a .words .now) (a .floats .now) (a .p + 1) 0)
+          (stage (k .last .0) (k .last .1 .0) (a .p + 1) (k .result .len))
+          (pooledIds plan (from v) (a .wide .now) (a .node) (a .start) (a .seeds .now)) (from v))
+          (lent-vector (a .g .dim) (a .vectors .now) (a .node)) (k .ensures);
+    }
 
 same-length : tie.Need-same-length
-same-length c = returns c .words-kept .size
+same-length c = returns c .grown .words-kept .size
 
 same-length-2 : tie.Need-same-length-2
-same-length-2 c = returns c .floats-kept .size
+same-length-2 c = returns c .grown .floats-kept .size
 
 pub node-pool-spec : {M : Type 1} → statement M
 node-pool-spec =

@@ -1,16 +1,25 @@
--- `prune_fresh` meets its contract. The pool's stretches and the row's are lent one after another.
-use Prim.Native.Nat.{_+_, _≤_}
+-- `prune_fresh` meets its contract: the pool is lent to `choose`, then the row and the factors to the writer.
+use Prim.Native.Nat.{_≤_}
 use native.Mathlib.Omega.{arith}
 use lib.ListN.{length}
-use Rattle.prune.specs.Composed.{as-pool, front-length, measurable, pruned}
-use Rattle.laws.specs.Parts.{part}
-use Rattle.batch_fresh.specs.Laws.{first-length, fresh}
 use borrow.Author.Needs.{needs}
+use Rattle.scratch.specs.Layout.{mostFactors}
+use Rattle.batch_fresh.proofs.Pruning.{pool-asks, write-asks, fresh}
 use Rattle.batch_fresh.proofs.prune_fresh.Statement.{statement}
 use Rattle.batch_fresh.proofs.prune_fresh.Tie as tie
 
+-- from where the pool was found back to the call
+abbrev called : tie.After-pool-dists-at → tie.Start
+called c = c .before .before .before .before .before
+
+pool-at-requires : tie.Need-pool-at-requires
+pool-at-requires c κs = search needs
+
 add-pool-end : tie.Need-add-pool-end
 add-pool-end c = search needs
+
+pool-dists-at-requires : tie.Need-pool-dists-at-requires
+pool-dists-at-requires c κs = search needs
 
 add-dists-end : tie.Need-add-dists-end
 add-dists-end c = search needs
@@ -47,10 +56,17 @@ slice-aggregate-choose-2 c = search needs
 
 choose-requires : tie.Need-choose-requires
 choose-requires c κs =
-    (as-pool (c .before .before .before .before .before .before .before .pre .1 .0), (omega arith, omega arith))
+    let found = c .before .before .before .before in
+    (pool-asks (called found .pre) (found .before .pool-at .ensures) (found .pool-dists-at .ensures), (omega arith, omega arith))
+
+fresh-row-at-requires : tie.Need-fresh-row-at-requires
+fresh-row-at-requires c κs = search needs
 
 add-row-end : tie.Need-add-row-end
 add-row-end c = search needs
+
+factors-at-requires : tie.Need-factors-at-requires
+factors-at-requires c κs = search needs
 
 add-factors-end : tie.Need-add-factors-end
 add-factors-end c = search needs
@@ -99,31 +115,28 @@ part-write-pruned-end-4 c = search needs
 
 write-pruned-requires : tie.Need-write-pruned-requires
 write-pruned-requires c κs =
-    let s = c .before .before .before .before .before .before .before .before .before .before .before .before .before .before .before .before .before .before .before .before in
-    let a = s .args in
-    let lay = s .pre .0 in
-    let k = c .before .before .before .before .before .before .before .before .before .before .before .before .choose in
-    let ys = k .last .0 in
-    let ds = k .last .1 .0 in
-    let ni : 750 ≤ length (k .last .1 .1 .1 .0) = omega (arith, k .kept .1 .1 .1 .0) in
-    let nd : 750 ≤ length (k .last .1 .1 .1 .1 .0) = omega (arith, k .kept .1 .1 .1 .1 .0) in
-    let fl = first-length (a .floats .now) ds (a .dists) (a .dists + a .len) (a .factors) (a .factors + k .result) (omega arith) (omega (arith, lay .dists-factors, lay .factors-end)) (omega (arith, k .ensures .few, lay .factors-end)) (k .kept .1 .0) in
-    let rl = first-length (a .words .now) ys (a .pool) (a .pool + a .len) (a .row) (a .row + a .width) (omega arith) (omega (arith, lay .pool-row, lay .row-end)) (lay .row-end) (k .kept .0) in
-    (measurable (a .dim) (a .vectors .now) (part (a .pool) (a .pool + a .len) (a .words .now)) (part (a .dists) (a .dists + a .len) (a .floats .now)) (a .node) (s .pre .1 .0) (s .pre .1 .1 .0) (k .last .1 .1 .1 .0) (k .last .1 .1 .1 .1 .0) (k .result) (k .ensures) ni nd, (omega (arith, fl, front-length (a .dim) (a .vectors .now) (part (a .pool) (a .pool + a .len) (a .words .now)) (part (a .dists) (a .dists + a .len) (a .floats .now)) (a .node) (s .pre .1 .0) (s .pre .1 .1 .0) (k .last .1 .1 .1 .0) (k .last .1 .1 .1 .1 .0) (k .result) (k .ensures) ni nd), omega (arith, rl, s .pre .1 .1 .1)))
+    let chosen = c .before .before .before .before .before .before .before .before .before .before .before .before .before .before in
+    let found = chosen .before .before .before .before .before in
+    let k = chosen .choose in
+    let rows = c .before .before .before .before .before .before in
+    let ni : mostFactors ≤ length (k .last .1 .1 .1 .0) = omega (arith, k .kept .1 .1 .1 .0) in
+    let nd : mostFactors ≤ length (k .last .1 .1 .1 .1 .0) = omega (arith, k .kept .1 .1 .1 .1 .0) in
+    write-asks (called found .pre) (found .before .pool-at .ensures) (found .pool-dists-at .ensures) (k .ensures) ni nd
+    (k .last .0) (k .last .1 .0) (k .kept .0) (k .kept .1 .0) (rows .before .fresh-row-at .ensures) (rows .factors-at .ensures)
 
 returns : tie.Need-returns
 returns c =
-    let s = c .before .before .before .before .before .before .before .before .before .before .before .before .before .before .before .before .before .before .before .before .before .before .before .before .before in
-    let a = s .args in
-    let lay = s .pre .0 in
-    let k = c .before .before .before .before .before .before .before .before .before .before .before .before .before .before .before .before .before .choose in
-    let ys = k .last .0 in
-    let ds = k .last .1 .0 in
-    let ni : 750 ≤ length (k .last .1 .1 .1 .0) = omega (arith, k .kept .1 .1 .1 .0) in
-    let nd : 750 ≤ length (k .last .1 .1 .1 .1 .0) = omega (arith, k .kept .1 .1 .1 .1 .0) in
-    let w = c .before .before .before .before .write-pruned in
-    fresh (a .words .now) (a .floats .now) (a .pool) (a .len) (a .row) (a .width) (a .dists) (a .factors) lay ys ds (w .last .1 .1 .1 .1 .1 .0) (w .last .1 .1 .1 .1 .0) (k .result) (w .result) _ (k .ensures .few) (k .kept .0) (k .kept .1 .0) (w .kept .1 .1 .1 .1 .1 .0) (w .kept .1 .1 .1 .1 .0)
-    (pruned (a .dim) (a .vectors .now) (part (a .pool) (a .pool + a .len) (a .words .now)) (part (a .dists) (a .dists + a .len) (a .floats .now)) (a .node) (s .pre .1 .0) (s .pre .1 .1 .0) (k .last .1 .1 .1 .0) (k .last .1 .1 .1 .1 .0) (k .result) (k .ensures) ni nd (w .last .1 .1 .1 .1 .1 .0) (w .result) _ (a .degree) (a .alpha) (w .ensures))
+    let done = c .before .before .before .before in
+    let rows = done .before .before .before .before .before .before .before in
+    let chosen = rows .before .before .before .before .before .before .before .before in
+    let found = chosen .before .before .before .before .before in
+    let k = chosen .choose in
+    let w = done .write-pruned in
+    let ni : mostFactors ≤ length (k .last .1 .1 .1 .0) = omega (arith, k .kept .1 .1 .1 .0) in
+    let nd : mostFactors ≤ length (k .last .1 .1 .1 .1 .0) = omega (arith, k .kept .1 .1 .1 .1 .0) in
+    fresh (called found .pre) (found .before .pool-at .ensures) (found .pool-dists-at .ensures) (k .ensures) ni nd
+    (k .last .0) (k .last .1 .0) (k .kept .0) (k .kept .1 .0) (rows .before .fresh-row-at .ensures) (rows .factors-at .ensures)
+    (w .last .1 .1 .1 .1 .1 .0) (w .last .1 .1 .1 .1 .0) (w .kept .1 .1 .1 .1 .1 .0) (w .kept .1 .1 .1 .1 .0) (w .ensures)
 
 same-length : tie.Need-same-length
 same-length c = returns c .words-kept .size
@@ -135,7 +148,9 @@ pub prune-fresh-spec : {M : Type 1} → statement M
 prune-fresh-spec =
     tie.close
     (tie.spec
+    pool-at-requires
     add-pool-end
+    pool-dists-at-requires
     add-dists-end
     mul-choose
     sub-choose
@@ -148,7 +163,9 @@ prune-fresh-spec =
     slice-aggregate-choose
     slice-aggregate-choose-2
     choose-requires
+    fresh-row-at-requires
     add-row-end
+    factors-at-requires
     add-factors-end
     sub-write-pruned
     part-write-pruned-start

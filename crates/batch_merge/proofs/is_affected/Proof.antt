@@ -1,4 +1,4 @@
--- `is_affected`: a seat or a chain says so.
+-- `is_affected` meets its contract: a node is affected if it has a seat, or heads a chain.
 use borrow.Author.Needs.{needs}
 use Rattle.batch_merge.proofs.Chains.{by-seat, by-head}
 use Rattle.batch_merge.proofs.is_affected.Statement.{statement}
@@ -14,7 +14,7 @@ shared-slice-read-if1 : tie.Need-shared-slice-read-if1
 shared-slice-read-if1 c = search needs
 
 returns : tie.Need-returns
-returns c = by-seat _ _ _ _ (c .before .before .pre .1) (c .before .before .pre .0) (c .if1 .taken)
+returns c = by-seat (c .before .before .pre .1) (c .before .before .pre .0) (c .if1 .taken)
 
 mul-result : tie.Need-mul-result
 mul-result c = search needs
@@ -23,7 +23,7 @@ shared-slice-read-result : tie.Need-shared-slice-read-result
 shared-slice-read-result c = search needs
 
 returns-2 : tie.Need-returns-2
-returns-2 c = by-head _ _ _ _ (c .before .before .before .pre .1) (c .before .before .before .pre .0) (c .before .if1 .left)
+returns-2 c = by-head (c .before .before .before .pre .1) (c .before .before .before .pre .0) (c .before .if1 .left)
 
 pub is-affected-spec : {M : Type 1} → statement M
 is-affected-spec =

@@ -1,17 +1,15 @@
--- `link`: heads and seats cleared, chains and seats made.
+-- `link` meets its contract: heads and seats cleared, chains and seats made.
 use borrow.Author.Needs.{needs}
 use Rattle.batch_merge.proofs.Chains.{link-asks, seat-asks, all-linked}
 use Rattle.batch_merge.proofs.link.Statement.{statement}
 use Rattle.batch_merge.proofs.link.Tie as tie
 
-mul-links : tie.Need-mul-links
-mul-links c = search needs
+-- from the cleared words back to the call
+abbrev called : tie.After-clear-words → tie.Start
+called c = c .before .before .before .before .before
 
-mul-fresh : tie.Need-mul-fresh
-mul-fresh c = search needs
-
-add-fresh : tie.Need-add-fresh
-add-fresh c = search needs
+links-at-requires : tie.Need-links-at-requires
+links-at-requires c κs = search needs
 
 mul-entries : tie.Need-mul-entries
 mul-entries c = search needs
@@ -29,7 +27,9 @@ clear-words-requires : tie.Need-clear-words-requires
 clear-words-requires c κs = search needs
 
 link-entries-requires : tie.Need-link-entries-requires
-link-entries-requires c κs = link-asks _ _ _ (c .before .before .before .before .before .before .before .pre) _ (c .before .before .before .clear-words .ensures)
+link-entries-requires c κs =
+    let cleared = c .before .before .before in
+    link-asks (called cleared .pre) _ (cleared .before .before .links-at .ensures) _ (cleared .clear-words .ensures)
 
 mul-seat-nodes : tie.Need-mul-seat-nodes
 mul-seat-nodes c = search needs
@@ -44,21 +44,28 @@ part-seat-nodes-end : tie.Need-part-seat-nodes-end
 part-seat-nodes-end c = search needs
 
 seat-nodes-requires : tie.Need-seat-nodes-requires
-seat-nodes-requires c κs = seat-asks _ _ _ (c .before .before .before .before .before .before .before .before .before .before .before .pre) _ (c .before .before .before .before .before .before .before .clear-words .ensures) _ (c .before .before .before .link-entries .kept .0) (c .before .before .before .link-entries .ensures)
+seat-nodes-requires c κs =
+    let linked = c .before .before .before .link-entries in
+    let cleared = c .before .before .before .before .before .before .before in
+    seat-asks (called cleared .pre) _ (cleared .before .before .links-at .ensures) _ (cleared .clear-words .ensures) _ (linked .kept .0) (linked .ensures)
 
 same-length : tie.Need-same-length
 same-length c = search needs
 
 returns : tie.Need-returns
-returns c = all-linked _ _ _ (c .before .before .before .before .before .before .before .before .before .before .before .before .before .before .pre) _ (c .before .before .before .before .before .before .before .before .before .before .clear-words .ensures) _ (c .before .before .before .before .before .before .link-entries .kept .0) (c .before .before .before .before .before .before .link-entries .ensures) _ (c .before .before .seat-nodes .kept .1 .0) (c .before .before .seat-nodes .ensures)
+returns c =
+    let seated = c .before .before .seat-nodes in
+    let chains = c .before .before .before .before .before .before in
+    let cleared = chains .before .before .before .before in
+    let linked = chains .link-entries in
+    all-linked (called cleared .pre) _ (cleared .before .before .links-at .ensures) _ (cleared .clear-words .ensures) _ (linked .kept .0) (linked .ensures)
+    _ (seated .kept .1 .0) (seated .ensures)
 
 pub link-spec : {M : Type 1} → statement M
 link-spec =
     tie.close
     (tie.spec
-    mul-links
-    mul-fresh
-    add-fresh
+    links-at-requires
     mul-entries
     sub-clear-words
     part-clear-words-start

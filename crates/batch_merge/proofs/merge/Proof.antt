@@ -1,20 +1,21 @@
--- `merge`: the chains first, then the rows.
+-- `merge` meets its contract: the chains first, then the rows.
 use borrow.Author.Needs.{needs}
 use Rattle.batch_merge.proofs.Merging.{rows-asks, all-done}
 use Rattle.batch_merge.proofs.merge.Statement.{statement}
 use Rattle.batch_merge.proofs.merge.Tie as tie
 
+-- from the chains back to the call
+abbrev called : tie.After-link → tie.Start
+called c = c .before .before .before .before .before .before .before
+
 link-requires : tie.Need-link-requires
 link-requires c κs = search needs
 
-mul-a : tie.Need-mul-a
-mul-a c = search needs
+factors-at-requires : tie.Need-factors-at-requires
+factors-at-requires c κs = search needs
 
-add-a : tie.Need-add-a
-add-a c = search needs
-
-add-e : tie.Need-add-e
-add-e c = search needs
+factors-end-requires : tie.Need-factors-end-requires
+factors-end-requires c κs = search needs
 
 mul-merge-rows : tie.Need-mul-merge-rows
 mul-merge-rows c = search needs
@@ -29,7 +30,10 @@ part-merge-rows-end : tie.Need-part-merge-rows-end
 part-merge-rows-end c = search needs
 
 merge-rows-requires : tie.Need-merge-rows-requires
-merge-rows-requires c κs = rows-asks _ _ _ _ _ _ _ _ _ (c .before .before .before .before .before .before .before .before .before .before .before .before .pre) _ (c .before .before .before .before .before .link .ensures)
+merge-rows-requires c κs =
+    let ended = c .before .before .before in
+    let linked = ended .before .before .before .before in
+    rows-asks (called linked .pre) (linked .link .ensures) (ended .before .factors-at .ensures) (ended .factors-end .ensures)
 
 same-length : tie.Need-same-length
 same-length c = search needs
@@ -41,16 +45,21 @@ same-length-3 : tie.Need-same-length-3
 same-length-3 c = search needs
 
 returns : tie.Need-returns
-returns c = all-done _ _ _ _ _ _ _ _ _ (c .before .before .before .before .before .before .before .before .before .before .before .before .before .before .before .before .before .pre) _ (c .before .before .before .before .before .before .before .before .before .before .link .ensures) _ (c .before .before .before .before .merge-rows .last .1 .1 .1 .1 .1 .1 .1 .1 .0) (c .before .before .before .before .merge-rows .ensures) (c .before .before .before .before .merge-rows .kept .1 .1 .1 .1 .1 .1 .1 .1 .0)
+returns c =
+    let rows = c .before .before .before .before in
+    let merged = rows .merge-rows in
+    let ended = rows .before .before .before .before in
+    let linked = ended .before .before .before .before in
+    all-done (called linked .pre) (linked .link .ensures) (ended .before .factors-at .ensures) (ended .factors-end .ensures)
+    (merged .last .1 .1 .1 .1 .1 .0) (merged .ensures) (merged .kept .1 .1 .1 .1 .1 .0)
 
 pub merge-spec : {M : Type 1} → statement M
 merge-spec =
     tie.close
     (tie.spec
     link-requires
-    mul-a
-    add-a
-    add-e
+    factors-at-requires
+    factors-end-requires
     mul-merge-rows
     sub-merge-rows
     part-merge-rows-start

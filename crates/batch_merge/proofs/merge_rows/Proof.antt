@@ -1,34 +1,38 @@
--- `merge_rows`: the rows in turn.
+-- `merge_rows` meets its contract. The invariant: the rows below i are the merged ones, the others are as they were.
 use mathlib.Core.Path.{_≡_, refl, sym, ap, _∙_}
 use mathlib.Core.Logic.{⊎-elim}
 use Prim.Native.Nat.{_-_}
 use native.Mathlib.Omega.{arith}
-use lib.ListN.{length, drop}
+use lib.ListN.{length}
 use borrow.Author.Needs.{needs}
-use Rattle.definition.specs.Batch.{mergedRow}
-use Rattle.definition.specs.Outcome.{settingOf}
-use Rattle.laws.specs.Listed.{listedAt}
-use Rattle.prune_fit.specs.Table.{Written, written-none}
-use Rattle.batch_merge.specs.Layout.{freshAt}
-use Rattle.batch_merge.proofs.Turns.{turn-fits, turn-row, turn-merged, turn-same, all-merged}
+use Rattle.given.specs.Given.{given}
+use Rattle.given.specs.Fresh.{merging}
+use Rattle.batch_merge.proofs.Turns.{Turned, turn-start, turn-asks, turn-merged, turn-same, all-merged}
 use Rattle.batch_merge.proofs.merge_rows.Statement.{statement}
 use Rattle.batch_merge.proofs.merge_rows.Tie as tie
 
 abbrev Inv-loop : tie.InvT-loop
-Inv-loop n dim vectors params slack nodes wide₀ words factors₀ i₀ wide factors i =
-    Written n slack (mergedRow (settingOf n dim vectors params) wide₀ (listedAt nodes (drop (freshAt n) words))) wide₀ wide i × (length factors ≡ length factors₀)
+Inv-loop g vectors nodes wide₀ words factors₀ n i₀ wide factors i =
+    Turned (given g vectors) (merging (g .n) nodes words) wide₀ wide i × (length factors ≡ length factors₀)
 
 abbrev μ-loop : tie.MeasureT-loop
-μ-loop n dim vectors params slack nodes wide₀ words factors₀ i₀ wide factors i = n - i
+μ-loop g vectors nodes wide₀ words factors₀ n i₀ wide factors i = n - i
+
+-- from a turn of the loop back to the call
+abbrev called : (tie.At-loop Inv-loop μ-loop) → (tie.Start Inv-loop μ-loop)
+called c = c .before .before .before .before .before .before
 
 loop-holds : tie.Need-loop-holds Inv-loop μ-loop
-loop-holds c = (written-none _ _ _ _ (c .before .before .before .before .before .pre .0 .0), refl)
+loop-holds c = (turn-start (c .before .before .before .before .before .pre .1 .1 .1 .size), refl)
 
 is-affected-requires : tie.Need-is-affected-requires Inv-loop μ-loop
-is-affected-requires c κs = (omega arith, c .before .before .before .before .before .before .before .pre .1 .1 .0)
+is-affected-requires c κs = (omega arith, called (c .before) .pre .1 .1 .0)
 
 merge-row-requires : tie.Need-merge-row-requires Inv-loop μ-loop
-merge-row-requires c κs = ((omega arith, turn-fits _ _ _ _ _ _ _ _ (c .before .before .before .before .before .before .before .before .before .before .before .pre .1 .0) _ _ (c .before .before .before .before .before .loop .inv .0) (omega arith), omega arith), (c .before .before .before .before .before .before .before .before .before .before .before .pre .1 .0, (c .before .before .before .before .before .before .before .before .before .before .before .pre .1 .1 .0, turn-row _ _ _ _ _ _ _ _ (c .before .before .before .before .before .before .before .before .before .before .before .pre .1 .0) _ _ (c .before .before .before .before .before .loop .inv .0) (omega arith) (c .before .before .before .before .before .before .before .before .before .before .before .pre .1 .1 .1))))
+merge-row-requires c κs =
+    let turn = c .before .before .before .before .before in
+    let s = called turn in
+    (turn-asks (s .pre .1 .0) (turn .loop .inv .0) (omega arith) (s .pre .1 .1 .0) (s .pre .1 .1 .1 .words), omega arith)
 
 add-i : tie.Need-add-i Inv-loop μ-loop
 add-i c = search needs
@@ -38,9 +42,19 @@ loop-less c = omega arith
 
 loop-again : tie.Need-loop-again Inv-loop μ-loop
 loop-again c =
+    let turn = c .before .before .before in
+    let limits = called turn .pre .1 .0 in
+    let further = c .before .before .loop-test .taken in
+    let says = c .before .is-affected .ensures in
     ⊎-elim
-    (λ w. (turn-merged _ _ _ _ _ _ _ _ (c .before .before .before .before .before .before .before .before .before .pre .1 .0) _ _ (c .before .before .before .loop .inv .0) (omega (arith, c .before .before .loop-test .taken)) _ _ (w .8) (sym (w .0 .taken) ∙ c .before .is-affected .ensures) (w .3 .kept .1 .1 .1 .1 .1 .1 .1 .0) (w .3 .ensures), ap length (w .9) ∙ w .3 .kept .1 .1 .1 .1 .1 .1 .1 .1 .1 .0 ∙ c .before .before .before .loop .inv .1))
-    (λ w. (turn-same _ _ _ _ _ _ _ _ (c .before .before .before .before .before .before .before .before .before .pre .1 .0) _ _ (c .before .before .before .loop .inv .0) (omega (arith, c .before .before .loop-test .taken)) _ (w .1) (sym (w .0 .left) ∙ c .before .is-affected .ensures), ap length (w .2) ∙ c .before .before .before .loop .inv .1))
+    (λ w.
+    let merged = w .3 in
+    let kept = merged .kept .1 .1 .1 .1 in (
+      turn-merged limits (turn .loop .inv .0) (omega (arith, further)) (w .8) (sym (w .0 .taken) ∙ says) (kept .0) (merged .ensures),
+      ap length (w .9) ∙ kept .1 .1 .0 ∙ turn .loop .inv .1,
+    ))
+    (λ w.
+    (turn-same limits (turn .loop .inv .0) (omega (arith, further)) (w .1) (sym (w .0 .left) ∙ says), ap length (w .2) ∙ turn .loop .inv .1))
     (c .if1 .came)
 
 same-length : tie.Need-same-length Inv-loop μ-loop
@@ -50,7 +64,7 @@ same-length-2 : tie.Need-same-length-2 Inv-loop μ-loop
 same-length-2 c = search needs
 
 returns : tie.Need-returns Inv-loop μ-loop
-returns c = all-merged _ _ _ _ _ _ _ _ _ _ (c .before .loop .inv .0) (omega arith)
+returns c = all-merged (c .before .loop .inv .0) (omega arith)
 
 pub merge-rows-spec : {M : Type 1} → statement M
 merge-rows-spec =

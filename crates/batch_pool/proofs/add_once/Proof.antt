@@ -1,19 +1,15 @@
--- `add_once` meets its contract. An id is in the pool when its mark is the stamp; if not, there is room for it.
+-- `add_once`. An id is in the pool when its mark is the stamp; if not, there is room for it.
 use Prim.Native.Nat.{_<_}
 use native.Mathlib.Omega.{arith}
 use lib.ListN.{length-set}
-use borrow.Author.Needs.{needs}
 use Rattle.batch_pool.proofs.Adding.{pooled-room, added-seen, added-new}
+use borrow.Author.Needs.{needs}
 use Rattle.batch_pool.proofs.add_once.Statement.{statement}
 use Rattle.batch_pool.proofs.add_once.Tie as tie
-use Rattle.batch_pool.proofs.add_once.Reads as reads
-use Rattle.batch_pool.proofs.add_once.Lts as lts
 
 -- an id that is not in the pool finds room
-free : (c : lts.Else1 reads.Pre reads.Post) → c .before .before .args .len < c .before .before .args .n
-free c =
-    let s = c .before .before in
-    pooled-room (s .args .n) (s .args .stamp) (s .args .len) (s .args .pool .now) (s .pre .0) (s .args .dists .now) (s .args .id) (s .args .dist) (s .pre .1 .2) (c .if1 .left)
+free : (c : tie.Else1) → c .before .before .args .len < c .before .before .args .n
+free c = let s = c .before .before in pooled-room (s .pre .0) (s .args .id) (s .args .dist) (s .pre .1 .2) (c .if1 .left)
 
 add-mark : tie.Need-add-mark
 add-mark c = search needs
@@ -25,7 +21,7 @@ slice-read-if1 : tie.Need-slice-read-if1
 slice-read-if1 c = search needs
 
 returns : tie.Need-returns
-returns c = let s = c .before .before in added-seen (s .args .n) (s .args .stamp) (s .args .len) (s .args .pool .now) (s .pre .0) (s .args .dists .now) (s .args .id) (s .args .dist) (s .pre .1 .2) (c .if1 .taken)
+returns c = let s = c .before .before in added-seen (s .pre .0) (s .args .id) (s .args .dist) (s .pre .1 .2) (c .if1 .taken)
 
 mul-pool : tie.Need-mul-pool
 mul-pool c = search needs
@@ -55,7 +51,7 @@ same-length-2 : tie.Need-same-length-2
 same-length-2 c = search needs
 
 returns-2 : tie.Need-returns-2
-returns-2 c = let s = c .before .before in added-new (s .args .n) (s .args .stamp) (s .args .len) (s .args .pool .now) (s .pre .0) (s .args .dists .now) (s .args .id) (s .args .dist) (s .pre .1 .2) (c .if1 .left) (s .pre .1 .1)
+returns-2 c = let s = c .before .before in added-new (s .pre .0) (s .args .id) (s .args .dist) (s .pre .1 .2) (c .if1 .left) (s .pre .1 .1)
 
 pub add-once-spec : {M : Type 1} → statement M
 add-once-spec =

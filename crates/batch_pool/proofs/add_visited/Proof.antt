@@ -1,22 +1,35 @@
--- `add_visited` meets its contract. The first k that were visited have been added.
+-- `add_visited`. The loop's invariant: the first k that were visited have been added. The pool's regions are lent for each of them.
 use mathlib.Core.Path.{_≡_, sym, subst}
+use native.Mathlib.Nat.{le-of-eq}
 use Prim.Native.Nat.{ℕ, _-_, _≤_, _<_}
 use native.Mathlib.Omega.{arith}
+use Rattle.batch_pool.specs.Regions.{stage, Filled}
+use Rattle.batch_pool.proofs.Lending.{filled-none, filled-dists, id-kept, filled-more}
 use borrow.Author.Needs.{needs}
-use native.Mathlib.Nat.{le-of-eq}
-use Rattle.batch_pool.specs.Regions.{Filled}
-use Rattle.batch_pool.proofs.Lending.{dists-length, filled-none, filled-floats, id-kept, filled-more}
 use Rattle.batch_pool.proofs.add_visited.Statement.{statement}
 use Rattle.batch_pool.proofs.add_visited.Tie as tie
 
 abbrev Inv-loop : tie.InvT-loop
-Inv-loop words₀ floats₀ n visited stamp len more₀ k₀ words floats more k = (k ≤ visited) × Filled n stamp words₀ floats₀ len words floats more k
+Inv-loop words₀ floats₀ n visited stamp len pool-at pool-end dists-at dists-end more₀ k₀ words floats more k =
+    (k ≤ visited) × Filled n (stage words₀ floats₀ stamp len) (stage words floats stamp more) k
 
 abbrev μ-loop : tie.MeasureT-loop
-μ-loop words₀ floats₀ n visited stamp len more₀ k₀ words floats more k = visited - k
+μ-loop words₀ floats₀ n visited stamp len pool-at pool-end dists-at dists-end more₀ k₀ words floats more k = visited - k
+
+pool-at-requires : tie.Need-pool-at-requires Inv-loop μ-loop
+pool-at-requires c κs = search needs
+
+stamps-end-requires : tie.Need-stamps-end-requires Inv-loop μ-loop
+stamps-end-requires c κs = search needs
+
+pool-dists-at-requires : tie.Need-pool-dists-at-requires Inv-loop μ-loop
+pool-dists-at-requires c κs = search needs
+
+factors-at-requires : tie.Need-factors-at-requires Inv-loop μ-loop
+factors-at-requires c κs = search needs
 
 loop-holds : tie.Need-loop-holds Inv-loop μ-loop
-loop-holds c = let s = c .before .before in (omega arith, filled-none (s .args .n) (s .args .stamp) (s .args .len) (s .args .words .now) (s .args .floats .now) (s .pre .0))
+loop-holds c = let s = c .before .before .before .before .before .before in (omega arith, filled-none _ _ (s .pre .0))
 
 add-at : tie.Need-add-at Inv-loop μ-loop
 add-at c = search needs
@@ -32,24 +45,6 @@ mul-dist c = search needs
 
 slice-read-dist : tie.Need-slice-read-dist Inv-loop μ-loop
 slice-read-dist c = search needs
-
-mul-pool-at : tie.Need-mul-pool-at Inv-loop μ-loop
-mul-pool-at c = search needs
-
-add-pool-at : tie.Need-add-pool-at Inv-loop μ-loop
-add-pool-at c = search needs
-
-mul-pool-end : tie.Need-mul-pool-end Inv-loop μ-loop
-mul-pool-end c = search needs
-
-add-pool-end : tie.Need-add-pool-end Inv-loop μ-loop
-add-pool-end c = search needs
-
-mul-dists-at : tie.Need-mul-dists-at Inv-loop μ-loop
-mul-dists-at c = search needs
-
-add-dists-at : tie.Need-add-dists-at Inv-loop μ-loop
-add-dists-at c = search needs
 
 mul-add-once : tie.Need-mul-add-once Inv-loop μ-loop
 mul-add-once c = search needs
@@ -77,14 +72,19 @@ part-add-once-end-2 c = search needs
 
 add-once-requires : tie.Need-add-once-requires Inv-loop μ-loop
 add-once-requires c κs =
-    let s = c .before .before .before .before .before .before .before .before in
-    let l = c .before .before .before .before .before .loop in
-    let h : l .k < s .args .n = omega (arith, s .pre .1 .0 .3) in (
-      l .inv .1 .added .pooled,
+    let l = c .before .before .before .before .before in
+    let o = l .before in
+    let s = o .before .before .before .before .before .before in
+    let q = s .pre .1 .0 in
+    let f = l .loop .inv .1 in
+    let h : l .loop .k < s .args .n = omega (arith, q .3) in
+    let low = s .pre .1 .1 (l .loop .k) (omega arith) in
+    rw (o .before .before .before .pool-at .ensures, o .before .before .stamps-end .ensures, o .before .pool-dists-at .ensures, o .factors-at .ensures) (
+      f .added .pooled,
       (
-        s .pre .1 .0 .0,
-        le-of-eq (sym (dists-length (s .args .n) (l .floats) (filled-floats (s .args .n) (s .args .stamp) (s .args .len) (s .args .words .now) (l .words) (s .args .floats .now) (l .floats) (l .more) (l .k) (l .inv .1) h (s .pre .1 .0 .1) (s .pre .1 .0 .2)))),
-        subst (λ (i : ℕ). i < s .args .n) (sym (id-kept (s .args .n) (s .args .stamp) (s .args .len) (s .args .words .now) (l .words) (s .args .floats .now) (l .floats) (l .more) (l .k) (l .inv .1) h (s .pre .1 .0 .1) (s .pre .1 .0 .2))) (s .pre .1 .1 (l .k) (omega arith)),
+        q .0,
+        le-of-eq (sym (filled-dists _ _ _ (l .loop .k) f h (q .1) (q .2))),
+        subst (λ (i : ℕ). i < s .args .n) (sym (id-kept _ _ _ (l .loop .k) f h (q .1) (q .2))) low,
       ),
     )
 
@@ -96,11 +96,21 @@ loop-less c = omega arith
 
 loop-again : tie.Need-loop-again Inv-loop μ-loop
 loop-again c =
-    let s = c .before .before .before .before .before .before .before .before .before .before .before .before .before in
-    let l = c .before .before .before .before .before .before .before .before .before .before .loop in
-    let a = c .before .before .before .before .add-once in
-    let h : l .k < s .args .n = omega (arith, s .pre .1 .0 .3, c .before .before .before .before .before .before .before .before .before .loop-test .taken) in
-    (omega arith, filled-more (s .args .n) (s .args .stamp) (s .args .len) (s .args .words .now) (l .words) (s .args .floats .now) (l .floats) (l .more) (l .k) (l .inv .1) h (s .pre .1 .0 .1) (s .pre .1 .0 .2) (a .last .0) (a .last .1 .0) (a .kept .0) (a .kept .1 .0) (a .result) (a .ensures))
+    let a = c .before .before .before .before in
+    let l = a .before .before .before .before .before .before in
+    let o = l .before in
+    let s = o .before .before .before .before .before .before in
+    let q = s .pre .1 .0 in
+    let pa = o .before .before .before .pool-at .ensures in
+    let pe = o .before .before .stamps-end .ensures in
+    let da = o .before .pool-dists-at .ensures in
+    let de = o .factors-at .ensures in
+    let h : l .loop .k < s .args .n = omega (arith, q .3, a .before .before .before .before .before .loop-test .taken) in
+    let np = rw (pa, pe) at (a .add-once .kept .0) in
+    let nd = rw (da, de) at (a .add-once .kept .1 .0) in (
+      omega arith,
+      rw (pa, pe, da, de) (filled-more _ _ _ (l .loop .k) (l .loop .inv .1) h (q .1) (q .2) _ _ np nd _ (rw (pa, pe, da, de) at (a .add-once .ensures))),
+    )
 
 same-length : tie.Need-same-length Inv-loop μ-loop
 same-length c = c .before .loop .inv .1 .words-kept .size
@@ -110,10 +120,10 @@ same-length-2 c = c .before .loop .inv .1 .floats-kept .size
 
 returns : tie.Need-returns Inv-loop μ-loop
 returns c =
-    let s = c .before .before .before .before in
-    let l = c .before .loop in
-    let e : l .k ≡ s .args .visited = omega arith in
-    subst (Filled (s .args .n) (s .args .stamp) (s .args .words .now) (s .args .floats .now) (s .args .len) (l .words) (l .floats) (l .more)) e (l .inv .1)
+    let l = c .before in
+    let s = l .before .before .before .before .before .before .before in
+    let e : l .loop .k ≡ s .args .visited = omega arith in
+    subst (Filled _ _ _) e (l .loop .inv .1)
 
 pub add-visited-spec : {M : Type 1} → statement M
 add-visited-spec =
@@ -121,18 +131,16 @@ add-visited-spec =
     (tie.spec
     Inv-loop
     μ-loop
+    pool-at-requires
+    stamps-end-requires
+    pool-dists-at-requires
+    factors-at-requires
     loop-holds
     add-at
     mul-id
     slice-read-id
     mul-dist
     slice-read-dist
-    mul-pool-at
-    add-pool-at
-    mul-pool-end
-    add-pool-end
-    mul-dists-at
-    add-dists-at
     mul-add-once
     sub-add-once
     part-add-once-start

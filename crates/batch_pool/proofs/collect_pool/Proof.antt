@@ -1,38 +1,64 @@
--- `collect_pool` meets its contract. The row, the walk from the start and those from the seeds, one after another.
+-- `collect_pool`. The row, the walk from the start and those from the seeds, one after another. The row goes into the pool's regions, lent at the layout's
+-- offsets.
 use mathlib.Core.Path.{sym}
-use native.Mathlib.Omega.{arith}
-use borrow.Author.Needs.{needs}
 use native.Mathlib.Nat.{le-of-eq}
+use Prim.Native.Nat.{_+_, _*_, _≤_}
+use native.Mathlib.Omega.{arith}
+use lib.ListN.{length}
 use Rattle.definition.specs.Metric.{fromQuery}
-use Rattle.metric.specs.Laws.{entry-fits}
-use Rattle.batch_pool.proofs.Lending.{dists-length}
-use Rattle.batch_pool.proofs.Growing.{grown-row, grown-pool, row-rule}
+use Rattle.definition.specs.Tables.{ids}
+use Rattle.laws.specs.Parts.{part}
+use Rattle.laws.specs.Words.{searchable-part}
+use Rattle.greedy.specs.Scratch.{row-in}
+use Rattle.batch_pool.specs.Regions.{stage, Grown}
+use Rattle.batch_pool.proofs.Lending.{dists-length, returned}
+use Rattle.batch_pool.proofs.Growing.{grown-row, grown-pool}
+use borrow.Author.Needs.{needs}
 use Rattle.batch_pool.proofs.collect_pool.Statement.{statement}
 use Rattle.batch_pool.proofs.collect_pool.Tie as tie
 
-mul-pool-at : tie.Need-mul-pool-at
-mul-pool-at c = search needs
+-- the row is within the wide table
+fits : (c : tie.After-factors-at)
+    → let a = c .before .before .before .before .before .before .before .before .before .before .args in
+    (a .node * a .p .width + a .p .width ≤ length (a .wide .now)) × (length (a .wide .now) ≤ 8388608)
+fits c =
+    let s = c .before .before .before .before .before .before .before .before .before .before in
+    row-in (s .pre .0) (s .pre .1 .0 .room .space .nodes) (s .args .node) (s .pre .1 .1 .0)
 
-add-pool-at : tie.Need-add-pool-at
-add-pool-at c = search needs
+-- the row was added
+row-grown : (c : tie.After-add-row)
+    → let a = c .before .before .before .before .before .before .before .before .before .before .before .before .before .before .args in
+    let s₀ = stage (a .words .now) (a .floats .now) (a .stamp) 0 in
+    Grown (a .p) (a .epoch) s₀ (returned (a .p .n) s₀ (c .add-row .last .0) (c .add-row .last .1 .0) (c .add-row .result))
+    (ids (part (a .node * a .p .width) (a .node * a .p .width + a .p .width) (a .wide .now)))
+    (fromQuery (a .p .dim) (a .vectors .now) (a .query .now))
+row-grown c =
+    let o = c .before .before .before .before in
+    let s = o .before .before .before .before .before .before .before .before .before .before in
+    let r = c .add-row in
+    let pa = o .before .before .before .pool-at .ensures in
+    let pe = o .before .before .stamps-end .ensures in
+    let da = o .before .pool-dists-at .ensures in
+    let de = o .factors-at .ensures in
+    grown-row _ _ _ _ (s .pre .1 .0) _ _ (rw (pa, pe) at (r .kept .0)) (rw (da, de) at (r .kept .1 .0)) _ _ (rw (pa, pe, da, de) at (r .ensures))
 
-mul-pool-end : tie.Need-mul-pool-end
-mul-pool-end c = search needs
+pool-at-requires : tie.Need-pool-at-requires
+pool-at-requires c κs = search needs
 
-add-pool-end : tie.Need-add-pool-end
-add-pool-end c = search needs
+stamps-end-requires : tie.Need-stamps-end-requires
+stamps-end-requires c κs = search needs
 
-mul-dists-at : tie.Need-mul-dists-at
-mul-dists-at c = search needs
+pool-dists-at-requires : tie.Need-pool-dists-at-requires
+pool-dists-at-requires c κs = search needs
 
-add-dists-at : tie.Need-add-dists-at
-add-dists-at c = search needs
+factors-at-requires : tie.Need-factors-at-requires
+factors-at-requires c κs = search needs
 
 mul-at : tie.Need-mul-at
-mul-at c = let s = c .before .before .before .before .before .before in omega (arith, entry-fits (s .args .node) (s .args .p .n) (s .args .p .width) (s .pre .1 .1 .0), s .pre .0 .size, s .good .1 .1 .1 .1 .0)
+mul-at c = omega (arith, fits c)
 
 add-end : tie.Need-add-end
-add-end c = let s = c .before .before .before .before .before .before in omega (arith, entry-fits (s .args .node) (s .args .p .n) (s .args .p .width) (s .pre .1 .1 .0), s .pre .0 .size, s .good .1 .1 .1 .1 .0)
+add-end c = omega (arith, fits c)
 
 mul-add-row : tie.Need-mul-add-row
 mul-add-row c = search needs
@@ -59,7 +85,7 @@ part-add-row-end-2 : tie.Need-part-add-row-end-2
 part-add-row-end-2 c = search needs
 
 mul-add-row-3 : tie.Need-mul-add-row-3
-mul-add-row-3 c = let s = c .before .before .before .before .before .before .before .before in omega (arith, entry-fits (s .args .node) (s .args .p .n) (s .args .p .width) (s .pre .1 .1 .0), s .pre .0 .size, s .good .1 .1 .1 .1 .0)
+mul-add-row-3 c = omega (arith, fits (c .before .before))
 
 sub-add-row-3 : tie.Need-sub-add-row-3
 sub-add-row-3 c = search needs
@@ -68,31 +94,48 @@ part-add-row-start-3 : tie.Need-part-add-row-start-3
 part-add-row-start-3 c = search needs
 
 part-add-row-end-3 : tie.Need-part-add-row-end-3
-part-add-row-end-3 c = let s = c .before .before .before .before .before .before .before .before in omega (arith, entry-fits (s .args .node) (s .args .p .n) (s .args .p .width) (s .pre .1 .1 .0), s .pre .0 .size, s .good .1 .1 .1 .1 .0)
+part-add-row-end-3 c = omega (arith, fits (c .before .before))
 
 add-row-requires : tie.Need-add-row-requires
 add-row-requires c κs =
-    let s = c .before .before .before .before .before .before .before .before .before in
-    (s .pre .1 .0 .pooled, ((s .pre .1 .0 .room .nodes, le-of-eq (sym (dists-length (s .args .p .n) (s .args .floats .now) (s .pre .1 .0 .float-room)))), (s .pre .0 .measures, row-rule (s .args .p .n) (s .args .p .width) (s .args .wide .now) (s .args .node) (s .pre .0 .rows))))
+    let o = c .before .before .before in
+    let s = o .before .before .before .before .before .before .before .before .before .before in
+    let h = s .pre .1 .0 in
+    let from = s .args .node * s .args .p .width in
+    rw (o .before .before .before .pool-at .ensures, o .before .before .stamps-end .ensures, o .before .pool-dists-at .ensures, o .factors-at .ensures) (
+      h .pooled,
+      (
+        (h .room .space .nodes, le-of-eq (sym (dists-length (s .args .p .n) (s .args .floats .now) (h .float-room)))),
+        (s .pre .0 .measures, searchable-part _ (s .args .wide .now) from (from + s .args .p .width) (s .pre .0 .rows)),
+      ),
+    )
 
 add-walk-requires : tie.Need-add-walk-requires
 add-walk-requires c κs =
-    let s = c .before .before .before .before .before .before .before .before .before .before .before .before .before .before .before .before in
-    let r = c .before .before .before .before .before .before .add-row in
-    (s .pre .0, ((grown-row (s .args .p .n) (s .args .p .beam) (s .args .stamp) (fromQuery (s .args .p .dim) (s .args .vectors .now) (s .args .query .now)) (s .args .words .now) (s .args .floats .now) (s .args .epoch) (s .pre .1 .0) (r .last .0) (r .last .1 .0) (r .kept .0) (r .kept .1 .0) (r .result) _ (r .ensures)) .holding, s .pre .1 .1 .1))
+    let r = c .before .before .before .before .before .before in
+    let o = r .before .before .before .before in
+    let s = o .before .before .before .before .before .before .before .before .before .before in
+    rw (o .before .before .before .pool-at .ensures, o .before .before .stamps-end .ensures, o .before .pool-dists-at .ensures, o .factors-at .ensures)
+    (s .pre .0, (row-grown r .holding, s .pre .1 .1 .1))
 
 add-walks-requires : tie.Need-add-walks-requires
 add-walks-requires c κs =
-    let s = c .before .before .before .before .before .before .before .before .before .before .before .before .before .before .before .before .before .before .before .before .before .before .before in
-    (s .pre .0, (c .before .before .before .before .before .before .add-walk .ensures .holding, s .pre .1 .1 .2))
+    let a = c .before .before .before .before .before .before in
+    let r = a .before .before .before .before .before .before .before in
+    let o = r .before .before .before .before in
+    let s = o .before .before .before .before .before .before .before .before .before .before in
+    (s .pre .0, (a .add-walk .ensures .holding, s .pre .1 .1 .2))
 
 returns : tie.Need-returns
 returns c =
-    let s = c .before .before .before .before .before .before .before .before .before .before .before .before .before .before .before .before .before .before .before .before .before .before .before .before .before .before .before .before in
-    let r = c .before .before .before .before .before .before .before .before .before .before .before .before .before .before .before .before .before .before .add-row in
-    let a = c .before .before .before .before .before .before .before .before .before .before .before .add-walk in
-    let z = c .before .before .before .before .add-walks in
-    grown-pool (s .args .p .n) (s .args .p .beam) (s .args .stamp) (fromQuery (s .args .p .dim) (s .args .vectors .now) (s .args .query .now)) (s .args .p .width) (s .args .wide .now) (s .args .node) (s .args .start) (s .args .seeds .now) _ _ _ _ _ _ _ _ _ _ _ _ _ _ (grown-row (s .args .p .n) (s .args .p .beam) (s .args .stamp) (fromQuery (s .args .p .dim) (s .args .vectors .now) (s .args .query .now)) (s .args .words .now) (s .args .floats .now) (s .args .epoch) (s .pre .1 .0) (r .last .0) (r .last .1 .0) (r .kept .0) (r .kept .1 .0) (r .result) _ (r .ensures)) (a .ensures) (z .ensures)
+    let z = c .before .before .before .before in
+    let a = z .before .before .before .before .before .before .before in
+    let r = a .before .before .before .before .before .before .before in
+    let o = r .before .before .before .before in
+    let walk =
+    rw (o .before .before .before .pool-at .ensures, o .before .before .stamps-end .ensures, o .before .pool-dists-at .ensures, o .factors-at .ensures)
+    at (a .add-walk .ensures) in
+    grown-pool _ _ _ _ _ _ _ _ _ _ _ _ _ (row-grown r) walk (z .add-walks .ensures)
 
 same-length : tie.Need-same-length
 same-length c = returns c .words-kept .size
@@ -104,12 +147,10 @@ pub collect-pool-spec : {M : Type 1} → statement M
 collect-pool-spec =
     tie.close
     (tie.spec
-    mul-pool-at
-    add-pool-at
-    mul-pool-end
-    add-pool-end
-    mul-dists-at
-    add-dists-at
+    pool-at-requires
+    stamps-end-requires
+    pool-dists-at-requires
+    factors-at-requires
     mul-at
     add-end
     mul-add-row

@@ -1,75 +1,112 @@
--- `run_batches`: the runs in turn.
+-- `run_batches` meets its contract. The invariant: the batches that are left of the order, on the table as it is, give what all of them give on the opened one.
 use mathlib.Core.Path.{sym, _∙_}
-use Prim.Native.Nat.{_-_}
+use Prim.Native.Nat.{_*_, _-_, _≤_, _<_}
 use native.Mathlib.Omega.{arith}
+use lib.ListN.{length}
+use Rattle.given.specs.Given.{given}
+use Rattle.given.specs.Listing.{listing}
+use Rattle.given.specs.Held.{held}
 use Rattle.build.specs.Runs.{Running, runs-start, runs-end, end-most, end-later, seeds-fit, run-asks, runs-more}
 use Rattle.build.proofs.run_batches.Statement.{statement}
 use Rattle.build.proofs.run_batches.Tie as tie
 
 abbrev Inv-loop : tie.InvT-loop
-Inv-loop n dim vectors params slack start order seeds wide₀ words₀ floats₀ extra at₀ wide words floats at =
-    Running n dim vectors params slack start order seeds wide₀ words₀ floats₀ wide words floats at
+Inv-loop g vectors start order seeds wide₀ words₀ floats₀ n extra at₀ wide words floats at =
+    Running (given g vectors) (listing start order seeds) (held wide₀ words₀ floats₀) (held wide words floats) at
 
 abbrev μ-loop : tie.MeasureT-loop
-μ-loop n dim vectors params slack start order seeds wide₀ words₀ floats₀ extra at₀ wide words floats at =
-    n - at
+μ-loop g vectors start order seeds wide₀ words₀ floats₀ n extra at₀ wide words floats at = n - at
+
+-- from a turn of the loop back to the call
+abbrev called : (tie.At-loop Inv-loop μ-loop) → (tie.Start Inv-loop μ-loop)
+called c = c .before .before .before .before .before .before .before
+
+-- the run ends after it begins, within the order
+nodes-in : (c : (tie.After-run-end Inv-loop μ-loop))
+    → let a = called (c .before .before) .args in
+    let end = c .run-end .result in
+    (c .before .before .loop .at < end) × (end ≤ a .g .n) × (end ≤ length (a .order .now))
+nodes-in c =
+    let turn = c .before .before in
+    let s = called turn in
+    let more = c .before .loop-test .taken in
+    let later = end-later (s .pre) (turn .loop .inv) (omega (arith, more)) (c .run-end .ensures) in
+    let most = end-most (s .pre) (turn .loop .inv) (omega (arith, more)) (c .run-end .ensures) in
+    (later, most, omega (arith, s .pre .order-is))
+
+-- and so do its groups of seeds
+seeds-in : (c : (tie.After-run-end Inv-loop μ-loop))
+    → let a = called (c .before .before) .args in
+    let end = c .run-end .result * a .g .params .extra in
+    (c .before .before .loop .at * a .g .params .extra ≤ end) × (end ≤ length (a .seeds .now))
+seeds-in c = let turn = c .before .before in seeds-fit (called turn .pre) (turn .loop .inv) (omega (arith, c .before .loop-test .taken)) (c .run-end .ensures)
 
 loop-holds : tie.Need-loop-holds Inv-loop μ-loop
-loop-holds c = runs-start _ _ _ _ _ _ _ _ _ _ _ (c .before .before .before .before .before .before .pre)
+loop-holds c = runs-start (c .before .before .before .before .before .before .pre)
 
 run-end-requires : tie.Need-run-end-requires Inv-loop μ-loop
-run-end-requires c κs = (c .before .loop .inv .most, c .before .before .before .before .before .before .before .before .pre .nodes)
+run-end-requires c κs = (c .before .loop .inv .most, c .before .before .before .before .before .before .before .before .pre .limits .limits .nodes)
 
 mul-from : tie.Need-mul-from Inv-loop μ-loop
-mul-from c = let f = seeds-fit _ _ _ _ _ _ _ _ _ _ _ (c .before .before .before .before .before .before .before .before .before .pre) _ _ _ _ (c .before .before .loop .inv) (omega (arith, c .before .loop-test .taken)) _ (c .run-end .ensures) in omega (arith, f .0, f .1)
+mul-from c = omega (arith, seeds-in c .0, seeds-in c .1)
 
 mul-to : tie.Need-mul-to Inv-loop μ-loop
-mul-to c = let f = seeds-fit _ _ _ _ _ _ _ _ _ _ _ (c .before .before .before .before .before .before .before .before .before .pre) _ _ _ _ (c .before .before .loop .inv) (omega (arith, c .before .loop-test .taken)) _ (c .run-end .ensures) in omega (arith, f .0, f .1)
+mul-to c = omega (arith, seeds-in c .0, seeds-in c .1)
 
 mul-run-batch : tie.Need-mul-run-batch Inv-loop μ-loop
-mul-run-batch c = omega (arith, end-most _ _ _ _ _ _ _ _ _ _ _ (c .before .before .before .before .before .before .before .before .before .pre) _ _ _ _ (c .before .before .loop .inv) (omega (arith, c .before .loop-test .taken)) _ (c .run-end .ensures), end-later _ _ _ _ _ _ _ _ _ _ _ (c .before .before .before .before .before .before .before .before .before .pre) _ _ _ _ (c .before .before .loop .inv) (omega (arith, c .before .loop-test .taken)) _ (c .run-end .ensures), c .before .before .before .before .before .before .before .before .before .pre .order-is)
+mul-run-batch c = omega (arith, nodes-in c .0, nodes-in c .2)
 
 sub-run-batch : tie.Need-sub-run-batch Inv-loop μ-loop
-sub-run-batch c = omega (arith, end-most _ _ _ _ _ _ _ _ _ _ _ (c .before .before .before .before .before .before .before .before .before .pre) _ _ _ _ (c .before .before .loop .inv) (omega (arith, c .before .loop-test .taken)) _ (c .run-end .ensures), end-later _ _ _ _ _ _ _ _ _ _ _ (c .before .before .before .before .before .before .before .before .before .pre) _ _ _ _ (c .before .before .loop .inv) (omega (arith, c .before .loop-test .taken)) _ (c .run-end .ensures), c .before .before .before .before .before .before .before .before .before .pre .order-is)
+sub-run-batch c = omega (arith, nodes-in c .0, nodes-in c .2)
 
 part-run-batch-start : tie.Need-part-run-batch-start Inv-loop μ-loop
-part-run-batch-start c = omega (arith, end-most _ _ _ _ _ _ _ _ _ _ _ (c .before .before .before .before .before .before .before .before .before .pre) _ _ _ _ (c .before .before .loop .inv) (omega (arith, c .before .loop-test .taken)) _ (c .run-end .ensures), end-later _ _ _ _ _ _ _ _ _ _ _ (c .before .before .before .before .before .before .before .before .before .pre) _ _ _ _ (c .before .before .loop .inv) (omega (arith, c .before .loop-test .taken)) _ (c .run-end .ensures), c .before .before .before .before .before .before .before .before .before .pre .order-is)
+part-run-batch-start c = omega (arith, nodes-in c .0, nodes-in c .2)
 
 part-run-batch-end : tie.Need-part-run-batch-end Inv-loop μ-loop
-part-run-batch-end c = omega (arith, end-most _ _ _ _ _ _ _ _ _ _ _ (c .before .before .before .before .before .before .before .before .before .pre) _ _ _ _ (c .before .before .loop .inv) (omega (arith, c .before .loop-test .taken)) _ (c .run-end .ensures), end-later _ _ _ _ _ _ _ _ _ _ _ (c .before .before .before .before .before .before .before .before .before .pre) _ _ _ _ (c .before .before .loop .inv) (omega (arith, c .before .loop-test .taken)) _ (c .run-end .ensures), c .before .before .before .before .before .before .before .before .before .pre .order-is)
+part-run-batch-end c = omega (arith, nodes-in c .0, nodes-in c .2)
 
 mul-run-batch-2 : tie.Need-mul-run-batch-2 Inv-loop μ-loop
-mul-run-batch-2 c = let f = seeds-fit _ _ _ _ _ _ _ _ _ _ _ (c .before .before .before .before .before .before .before .before .before .before .pre) _ _ _ _ (c .before .before .before .loop .inv) (omega (arith, c .before .before .loop-test .taken)) _ (c .before .run-end .ensures) in omega (arith, f .0, f .1)
+mul-run-batch-2 c = let f = seeds-in (c .before) in omega (arith, f .0, f .1)
 
 sub-run-batch-2 : tie.Need-sub-run-batch-2 Inv-loop μ-loop
-sub-run-batch-2 c = let f = seeds-fit _ _ _ _ _ _ _ _ _ _ _ (c .before .before .before .before .before .before .before .before .before .before .pre) _ _ _ _ (c .before .before .before .loop .inv) (omega (arith, c .before .before .loop-test .taken)) _ (c .before .run-end .ensures) in omega (arith, f .0, f .1)
+sub-run-batch-2 c = let f = seeds-in (c .before) in omega (arith, f .0, f .1)
 
 part-run-batch-start-2 : tie.Need-part-run-batch-start-2 Inv-loop μ-loop
-part-run-batch-start-2 c = let f = seeds-fit _ _ _ _ _ _ _ _ _ _ _ (c .before .before .before .before .before .before .before .before .before .before .pre) _ _ _ _ (c .before .before .before .loop .inv) (omega (arith, c .before .before .loop-test .taken)) _ (c .before .run-end .ensures) in omega (arith, f .0, f .1)
+part-run-batch-start-2 c = let f = seeds-in (c .before) in omega (arith, f .0, f .1)
 
 part-run-batch-end-2 : tie.Need-part-run-batch-end-2 Inv-loop μ-loop
-part-run-batch-end-2 c = let f = seeds-fit _ _ _ _ _ _ _ _ _ _ _ (c .before .before .before .before .before .before .before .before .before .before .pre) _ _ _ _ (c .before .before .before .loop .inv) (omega (arith, c .before .before .loop-test .taken)) _ (c .before .run-end .ensures) in omega (arith, f .0, f .1)
+part-run-batch-end-2 c = let f = seeds-in (c .before) in omega (arith, f .0, f .1)
 
 run-batch-requires : tie.Need-run-batch-requires Inv-loop μ-loop
-run-batch-requires c κs = run-asks _ _ _ _ _ _ _ _ _ _ _ (c .before .before .before .before .before .before .before .before .before .before .before .before .before .before .pre) _ _ _ _ (c .before .before .before .before .before .before .before .loop .inv) (omega (arith, c .before .before .before .before .before .before .loop-test .taken)) _ (c .before .before .before .before .before .run-end .ensures)
+run-batch-requires c κs =
+    let ended = c .before .before .before .before .before in
+    let turn = ended .before .before in
+    run-asks (called turn .pre) (turn .loop .inv) (omega (arith, ended .before .loop-test .taken)) (ended .run-end .ensures)
 
 loop-less : tie.Need-loop-less Inv-loop μ-loop
-loop-less c = omega (arith, end-most _ _ _ _ _ _ _ _ _ _ _ (c .before .before .before .before .before .before .before .before .before .before .before .before .before .before .before .before .before .before .before .before .before .pre) _ _ _ _ (c .before .before .before .before .before .before .before .before .before .before .before .before .before .before .loop .inv) (omega (arith, c .before .before .before .before .before .before .before .before .before .before .before .before .before .loop-test .taken)) _ (c .before .before .before .before .before .before .before .before .before .before .before .before .run-end .ensures), end-later _ _ _ _ _ _ _ _ _ _ _ (c .before .before .before .before .before .before .before .before .before .before .before .before .before .before .before .before .before .before .before .before .before .pre) _ _ _ _ (c .before .before .before .before .before .before .before .before .before .before .before .before .before .before .loop .inv) (omega (arith, c .before .before .before .before .before .before .before .before .before .before .before .before .before .loop-test .taken)) _ (c .before .before .before .before .before .before .before .before .before .before .before .before .run-end .ensures), c .before .before .before .before .before .before .before .before .before .before .before .before .before .before .before .before .before .before .before .before .before .pre .order-is)
+loop-less c =
+    let ended = c .before .before .before .before .before .before .before .before .before .before .before .before in
+    omega (arith, nodes-in ended .0, nodes-in ended .1)
 
 loop-again : tie.Need-loop-again Inv-loop μ-loop
-loop-again c = runs-more _ _ _ _ _ _ _ _ _ _ _ (c .before .before .before .before .before .before .before .before .before .before .before .before .before .before .before .before .before .before .before .before .before .pre) _ _ _ _ (c .before .before .before .before .before .before .before .before .before .before .before .before .before .before .loop .inv) (omega (arith, c .before .before .before .before .before .before .before .before .before .before .before .before .before .loop-test .taken)) _ (c .before .before .before .before .before .before .before .before .before .before .before .before .run-end .ensures) _ _ _ (c .before .before .before .before .before .before .run-batch .ensures)
+loop-again c =
+    let ran = c .before .before .before .before .before .before in
+    let ended = ran .before .before .before .before .before .before in
+    let turn = ended .before .before in
+    let more = ended .before .loop-test .taken in
+    runs-more (called turn .pre) (turn .loop .inv) (omega (arith, more)) (ended .run-end .ensures) (ran .run-batch .ensures)
 
 same-length : tie.Need-same-length Inv-loop μ-loop
-same-length c = c .before .loop .inv .kept .size ∙ sym (c .before .before .before .before .before .before .before .before .pre .kept .size)
+same-length c = c .before .loop .inv .kept .size ∙ sym (called (c .before) .pre .kept .size)
 
 same-length-2 : tie.Need-same-length-2 Inv-loop μ-loop
-same-length-2 c = c .before .loop .inv .words-within .size
+same-length-2 c = c .before .loop .inv .within .words .size
 
 same-length-3 : tie.Need-same-length-3 Inv-loop μ-loop
-same-length-3 c = c .before .loop .inv .floats-within .size
+same-length-3 c = c .before .loop .inv .within .floats .size
 
 returns : tie.Need-returns Inv-loop μ-loop
-returns c = runs-end _ _ _ _ _ _ _ _ _ _ _ (c .before .before .before .before .before .before .before .before .pre) _ _ _ _ (c .before .loop .inv) (omega arith)
+returns c = runs-end (called (c .before) .pre) (c .before .loop .inv) (omega arith)
 
 pub run-batches-spec : {M : Type 1} → statement M
 run-batches-spec =

@@ -1,11 +1,16 @@
--- `close_row`: ids copied, then fitted to the degree.
+-- `close_row` meets its contract: the row's ids are copied, then fitted to the degree.
 use native.Mathlib.Omega.{arith}
 use borrow.Author.Needs.{needs}
 use lib.ListN.{replicate, length-replicate}
 use lib.Ieee.{ofBits, binary32}
+use Rattle.given.specs.Given.{widest}
 use Rattle.build_rows.proofs.Closing.{lent-few, copied-few, row-asks, row-closed}
 use Rattle.build_rows.proofs.close_row.Statement.{statement}
 use Rattle.build_rows.proofs.close_row.Tie as tie
+
+-- from the copied ids back to the call
+abbrev called : tie.After-copy-ids → tie.Start
+called c = c .before .before .before .before .before .before .before .before
 
 word-of-requires : tie.Need-word-of-requires
 word-of-requires c κs = search needs
@@ -32,7 +37,7 @@ slice-aggregate-copy-ids : tie.Need-slice-aggregate-copy-ids
 slice-aggregate-copy-ids c = search needs
 
 copy-ids-requires : tie.Need-copy-ids-requires
-copy-ids-requires c κs = lent-few _ _ _ _ _ _ _ _ _ (c .before .before .before .before .before .before .before .pre)
+copy-ids-requires c κs = lent-few (c .before .before .before .before .before .before .before .pre)
 
 sub-fit-row : tie.Need-sub-fit-row
 sub-fit-row c = search needs
@@ -41,7 +46,9 @@ part-ids-start : tie.Need-part-ids-start
 part-ids-start c = search needs
 
 part-ids-end : tie.Need-part-ids-end
-part-ids-end c = omega (arith, c .before .before .copy-ids .kept .1 .0, copied-few _ _ _ _ _ _ _ _ _ (c .before .before .before .before .before .before .before .before .before .before .pre) _ (c .before .before .before .before .before .word-of .ensures) _ _ (c .before .before .copy-ids .ensures))
+part-ids-end c =
+    let copied = c .before .before in
+    omega (arith, copied .copy-ids .kept .1 .0, copied-few (called copied .pre) (copied .copy-ids .ensures))
 
 sub-fit-row-2 : tie.Need-sub-fit-row-2
 sub-fit-row-2 c = search needs
@@ -50,10 +57,16 @@ part-dists-start : tie.Need-part-dists-start
 part-dists-start c = search needs
 
 part-dists-end : tie.Need-part-dists-end
-part-dists-end c = omega (arith, copied-few _ _ _ _ _ _ _ _ _ (c .before .before .before .before .before .before .before .before .before .before .before .pre) _ (c .before .before .before .before .before .before .word-of .ensures) _ _ (c .before .before .before .copy-ids .ensures))
+part-dists-end c =
+    let copied = c .before .before .before in
+    omega (arith, copied-few (called copied .pre) (copied .copy-ids .ensures))
 
 fit-row-requires : tie.Need-fit-row-requires
-fit-row-requires c κs = row-asks _ _ _ _ _ _ _ _ _ (c .before .before .before .before .before .before .before .before .before .before .before .before .before .pre) _ (c .before .before .before .before .before .before .before .before .word-of .ensures) _ _ (c .before .before .before .before .before .copy-ids .ensures) (replicate 84 (ofBits binary32 0)) (c .before .before .before .before .before .copy-ids .kept .1 .0) (length-replicate 84 (ofBits binary32 0))
+fit-row-requires c κs =
+    let copied = c .before .before .before .before .before in
+    let list = copied .copy-ids in
+    row-asks (called copied .pre) (list .ensures) (copied .before .before .before .word-of .ensures) (replicate widest (ofBits binary32 0)) (list .kept .1 .0)
+    (length-replicate widest (ofBits binary32 0))
 
 same-length : tie.Need-same-length
 same-length c = search needs
@@ -62,7 +75,10 @@ same-length-2 : tie.Need-same-length-2
 same-length-2 c = search needs
 
 returns : tie.Need-returns
-returns c = row-closed _ _ _ _ _ _ _ _ _ (c .before .before .before .before .before .before .before .before .before .before .before .before .before .before .before .before .before .before .before .before .pre) _ (c .before .before .before .before .before .before .before .before .before .before .before .before .before .before .before .word-of .ensures) _ _ (c .before .before .before .before .before .before .before .before .before .before .before .before .copy-ids .ensures) _ _ (c .before .before .before .before .before .before .fit-row .ensures)
+returns c =
+    let copied = c .before .before .before .before .before .before .before .before .before .before .before .before in
+    let fitted = c .before .before .before .before .before .before .fit-row in
+    row-closed (called copied .pre) (copied .copy-ids .ensures) (copied .before .before .before .word-of .ensures) (fitted .ensures)
 
 pub close-row-spec : {M : Type 1} → statement M
 close-row-spec =

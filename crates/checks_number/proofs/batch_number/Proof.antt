@@ -1,7 +1,7 @@
 -- `batch_number` meets its contract.
 use mathlib.Core.Path.{sym, _∙_}
 use borrow.Author.Needs.{needs}
-use Rattle.checks.specs.Good.{vectors-good, degree-good}
+use Rattle.accepted.specs.Checks.{vectors-good, degree-good}
 use Rattle.checks_number.specs.Tests.{Tests, holdsAt, numberAt, Clear, past-one, found, nothing, early}
 use Rattle.checks_number.specs.Shared.{params-clear}
 use Rattle.checks_number.specs.BuildNumbers.{batchTests, batch-numbered}
@@ -64,7 +64,7 @@ returns-2 c = batch-numbered (found (clear-1 (c .before .before)) (c .before .ba
 
 bad-wide-requires : tie.Need-bad-wide-requires
 unfolding holdsAt
-bad-wide-requires c κs = (vectors-good _ _ _ (clear-2 c .no 1) .1, degree-good _ (clear-2 c .no 2) .1)
+bad-wide-requires c κs = (vectors-good _ _ _ (clear-2 c .no 1) .1, degree-good _ (clear-2 c .no 2) .few)
 
 returns-3 : tie.Need-returns-3
 unfolding holdsAt numberAt

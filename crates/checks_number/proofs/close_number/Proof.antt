@@ -2,7 +2,7 @@
 use mathlib.Core.Path.{sym, _∙_}
 use native.Mathlib.Omega.{arith}
 use borrow.Author.Needs.{needs}
-use Rattle.checks.specs.Good.{vectors-good, degree-good}
+use Rattle.accepted.specs.Checks.{vectors-good, degree-good}
 use Rattle.checks_number.specs.Tests.{Tests, holdsAt, numberAt, Clear, past-one, found, nothing, early}
 use Rattle.checks_number.specs.Shared.{entries-clear}
 use Rattle.checks_number.specs.BuildNumbers.{closeTests, close-numbered}
@@ -77,7 +77,7 @@ returns-3 c = close-numbered (found (clear-2 (c .before .before)) (c .before .ba
 
 bad-wide-requires : tie.Need-bad-wide-requires
 unfolding holdsAt
-bad-wide-requires c κs = (vectors-good _ _ _ (clear-3 c .no 1) .1, degree-good _ (clear-3 c .no 2) .1)
+bad-wide-requires c κs = (vectors-good _ _ _ (clear-3 c .no 1) .1, degree-good _ (clear-3 c .no 2) .few)
 
 returns-4 : tie.Need-returns-4
 unfolding holdsAt numberAt

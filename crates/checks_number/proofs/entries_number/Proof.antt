@@ -1,6 +1,6 @@
 -- `entries_number` meets its contract.
 use borrow.Author.Needs.{needs}
-use Rattle.checks.specs.Good.{dim-good}
+use Rattle.accepted.specs.Checks.{dim-good}
 use Rattle.checks_number.specs.Tests.{Tests, holdsAt, numberAt, Clear, none-yet, past-one, found, nothing}
 use Rattle.checks_number.specs.Shared.{entryTests}
 use Rattle.checks_number.proofs.entries_number.Statement.{statement}

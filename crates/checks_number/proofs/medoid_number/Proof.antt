@@ -1,7 +1,7 @@
 -- `medoid_number` meets its contract.
 use mathlib.Core.Path.{sym, _∙_}
 use borrow.Author.Needs.{needs}
-use Rattle.checks.specs.Good.{vectors-good}
+use Rattle.accepted.specs.Checks.{vectors-good}
 use Rattle.checks_number.specs.Tests.{Tests, holdsAt, numberAt, Clear, past-one, found, nothing, early}
 use Rattle.checks_number.specs.Shared.{entries-clear}
 use Rattle.checks_number.specs.MedoidNumber.{medoidTests, medoid-numbered}

@@ -1,7 +1,7 @@
 -- `open_number` meets its contract.
 use native.Mathlib.Omega.{arith}
 use borrow.Author.Needs.{needs}
-use Rattle.checks.specs.Good.{count-good, degree-good}
+use Rattle.accepted.specs.Checks.{count-good, degree-good}
 use Rattle.checks_number.specs.Tests.{Tests, holdsAt, numberAt, Clear, none-yet, past-one, found, nothing}
 use Rattle.checks_number.specs.BuildNumbers.{openTests, open-numbered}
 use Rattle.checks_number.proofs.open_number.Statement.{statement}
@@ -62,7 +62,7 @@ returns-3 c = open-numbered (found (clear-2 (c .before .before)) (c .before .bad
 
 bad-wide-length-requires : tie.Need-bad-wide-length-requires
 unfolding holdsAt
-bad-wide-length-requires c κs = (count-good _ (clear-3 c .no 0) .1, degree-good _ (clear-3 c .no 1) .1)
+bad-wide-length-requires c κs = (count-good _ (clear-3 c .no 0) .1, degree-good _ (clear-3 c .no 1) .few)
 
 returns-4 : tie.Need-returns-4
 unfolding holdsAt numberAt

@@ -3,7 +3,7 @@ use mathlib.Core.Path.{refl, sym, ap, _∙_}
 use mathlib.Core.Bool.{not}
 use borrow.Author.Tests.{eq-eqb, ne-eqb}
 use borrow.Author.Needs.{needs}
-use Rattle.checks.specs.Good.{vectors-good, degree-good}
+use Rattle.accepted.specs.Checks.{vectors-good, degree-good}
 use Rattle.checks_number.specs.Tests.{Tests, holdsAt, numberAt, Clear, past-one, found, nothing, early}
 use Rattle.checks_number.specs.Shared.{entries-clear}
 use Rattle.checks_number.specs.SearchNumber.{searchTests, search-numbered}
@@ -93,7 +93,7 @@ returns-4 c = search-numbered (found (clear-3 (c .before .before)) (c .before .b
 
 bad-searched-requires : tie.Need-bad-searched-requires
 unfolding holdsAt
-bad-searched-requires c κs = (vectors-good _ _ _ (clear-4 c .no 1) .1, degree-good _ (clear-4 c .no 2) .1)
+bad-searched-requires c κs = (vectors-good _ _ _ (clear-4 c .no 1) .1, degree-good _ (clear-4 c .no 2) .few)
 
 returns-5 : tie.Need-returns-5
 unfolding holdsAt numberAt

@@ -10,8 +10,9 @@ use Rattle.definition.specs.Floats.{nought}
 use Rattle.definition.specs.Prune.{prune, measured}
 use Rattle.definition.specs.Medoid.{score}
 use Rattle.definition.specs.Refusals.{SearchCall, BuildCall, mostAnswers, searchWords, searchFloats, buildWords, buildFloats, buildNumber}
-use Rattle.definition.specs.Outcome.{distanceOut, searchOut, SearchOut, medoidOut, drawOut, buildOut, BuildOut}
+use Rattle.definition.specs.Outcome.{distanceOut, searchOut, SearchOut, medoidOut, drawOut, buildOut}
 use Rattle.definition.specs.checked.Opened.{opened}
+use Rattle.definition.specs.checked.Builds.{shown}
 
 -- the whole number that a float is
 unfoldable pub asWhole : Float → ℕ
@@ -128,18 +129,17 @@ lone extra seeds alphaBits =
       floats = replicate (buildFloats 1) nought;
     }
 
-unfoldable pub tables : BuildOut → List (List ℕ)
-tables o = (o .answer .number ∷ []) ∷ o .wide ∷ o .closed ∷ []
+unfoldable pub loneNumber : ℕ → ℕ
+loneNumber alphaBits = buildNumber (lone 0 [] alphaBits)
 
 -- n 1: extra seeds 1 is refusal 7, and nothing differs; extra seeds 0 gives one empty row. alpha 4.0 is accepted, the next float refused, infinity too, NaN not
 unfoldable pub others : List Sample
 others =
-    case (tables (buildOut (lone 1 (0 ∷ []) 0x3F800000))) ((7 ∷ []) ∷ (7 ∷ 7 ∷ 7 ∷ []) ∷ (7 ∷ 7 ∷ []) ∷ []) ∷
-    case (tables (buildOut (lone 0 [] 0x3F800000))) ((0 ∷ []) ∷ replicate 3 0xFFFFFFFF ∷ replicate 2 0xFFFFFFFF ∷ []) ∷
-    case₁ (buildNumber (lone 0 [] 0x40800000) ∷ buildNumber (lone 0 [] 0x40800001) ∷ buildNumber (lone 0 [] 0x7F800000) ∷ buildNumber (lone 0 [] 0x7FC00000) ∷ [])
-    (0 ∷ 5 ∷ 5 ∷ 0 ∷ []) ∷
+    case (shown (buildOut (lone 1 (0 ∷ []) 0x3F800000))) ((7 ∷ []) ∷ (7 ∷ 7 ∷ 7 ∷ []) ∷ (7 ∷ 7 ∷ []) ∷ []) ∷
+    case (shown (buildOut (lone 0 [] 0x3F800000))) ((0 ∷ []) ∷ replicate 3 0xFFFFFFFF ∷ replicate 2 0xFFFFFFFF ∷ []) ∷
+    case₁ (loneNumber 0x40800000 ∷ loneNumber 0x40800001 ∷ loneNumber 0x7F800000 ∷ loneNumber 0x7FC00000 ∷ []) (0 ∷ 5 ∷ 5 ∷ 0 ∷ []) ∷
     []
 
 pub others-right : map (λ s. s .got) others ≡ map (λ s. s .want) others
-unfolding others lone tables opened
+unfolding others lone loneNumber shown opened
 others-right = refl

@@ -6,8 +6,8 @@ use borrow.Author.Tests.{lt-ltb, le-ltb}
 use borrow.Author.Needs.{needs}
 use Rattle.definition.specs.Outcome.{orderOut}
 use Rattle.definition.specs.Refusals.{badCount, short, orderNumber}
-use Rattle.checks.specs.Numbers.{past, stop}
-use Rattle.checks.specs.Good.{count-good}
+use Rattle.accepted.specs.Chain.{past, stop}
+use Rattle.accepted.specs.Checks.{count-good}
 use Rattle.draws.specs.Outcomes.{kept-meets, done-meets}
 use Rattle.draws.specs.Order.{order-leaves}
 use Rattle.draws.proofs.order_drawn.Statement.{statement}

@@ -7,8 +7,8 @@ use borrow.Author.Needs.{needs}
 use lib.Dec.{ltb}
 use Rattle.definition.specs.Outcome.{pivotsOut}
 use Rattle.definition.specs.Refusals.{badCount, short, pivotsNumber}
-use Rattle.checks.specs.Numbers.{past, stop}
-use Rattle.checks.specs.Good.{count-good}
+use Rattle.accepted.specs.Chain.{past, stop}
+use Rattle.accepted.specs.Checks.{count-good}
 use Rattle.draws.specs.Outcomes.{kept-meets, done-meets}
 use Rattle.draws.specs.Pivots.{pivots-leaves}
 use Rattle.draws.proofs.pivots_drawn.Statement.{statement}
@@ -56,10 +56,11 @@ same-length c = search needs
 returns-3 : tie.Need-returns-3
 unfolding pivotsOut pivotsNumber short
 returns-3 c =
-    let many = c .before .before .before .before .before .before .least .ensures in
-    done-meets _ _ _ _ _ _ _
-    (past _ _ _ (count (c .before .before .before .before .before .before .before)) ∙ past _ _ _ (ap (ltb _) (sym many) ∙ le-ltb _ _ (c .before .before .before .before .before .if2 .left)))
-    (pivots-leaves _ _ _ _ _ _ many (c .before .before .before .fill-draws .ensures)) (c .filled .ensures)
+    let drawn = c .before .before .before in
+    let room = drawn .before .before in
+    let many = room .before .least .ensures in
+    done-meets _ _ _ _ _ _ _ (past _ _ _ (count (room .before .before)) ∙ past _ _ _ (ap (ltb _) (sym many) ∙ le-ltb _ _ (room .if2 .left)))
+    (pivots-leaves _ _ _ _ _ _ many (drawn .fill-draws .ensures)) (c .filled .ensures)
 
 pub pivots-drawn-spec : {M : Type 1} → statement M
 pivots-drawn-spec =

@@ -5,8 +5,8 @@ use native.Mathlib.Omega.{arith}
 use borrow.Author.Needs.{needs}
 use Rattle.definition.specs.Outcome.{rowsOut}
 use Rattle.definition.specs.Refusals.{badCount, badDegree, badLength, rowsNumber}
-use Rattle.checks.specs.Numbers.{past, stop}
-use Rattle.checks.specs.Good.{count-good, degree-good, length-good}
+use Rattle.accepted.specs.Chain.{past, stop}
+use Rattle.accepted.specs.Checks.{count-good, degree-good, length-good}
 use Rattle.checks.specs.Lengths.{length-is}
 use Rattle.draws.specs.Outcomes.{kept-meets, done-meets}
 use Rattle.draws.specs.Rows.{one-row, more-rows}
@@ -59,8 +59,8 @@ returns-3 c =
     kept-meets _ 8 _ _ _ _ (omega arith) (past _ _ _ (count (e .before .before)) ∙ past _ _ _ (degree e) ∙ stop _ _ _ bad)
     (c .kept3 .ensures)
 
-only-padding-requires : tie.Need-only-padding-requires
-only-padding-requires c κs = search needs
+pad-from-requires : tie.Need-pad-from-requires
+pad-from-requires c κs = search needs
 
 filled-requires : tie.Need-filled-requires
 filled-requires c κs = search needs
@@ -73,7 +73,7 @@ unfolding rowsOut rowsNumber
 returns-4 c =
     let e = c .before .before .before .before .before .before in
     done-meets _ _ _ _ _ _ _ (past _ _ _ (count (e .before .before .before .before)) ∙ past _ _ _ (degree (e .before .before)) ∙ past _ _ _ (size e))
-    (one-row _ _ _ _ _ (c .before .before .before .before .before .if4 .taken) (length-good _ _ _ (size e)) (c .before .before .before .only-padding .ensures))
+    (one-row _ _ _ _ _ (c .before .before .before .before .before .if4 .taken) (length-good _ _ _ (size e)) (c .before .before .before .pad-from .ensures))
     (c .filled .ensures)
 
 fill-rows-requires : tie.Need-fill-rows-requires
@@ -111,7 +111,7 @@ rows-drawn-spec =
     bad-length-requires
     kept-requires-3
     returns-3
-    only-padding-requires
+    pad-from-requires
     filled-requires
     same-length
     returns-4

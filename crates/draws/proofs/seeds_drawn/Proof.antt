@@ -6,8 +6,8 @@ use borrow.Author.Tests.{lt-ltb, le-ltb}
 use borrow.Author.Needs.{needs}
 use Rattle.definition.specs.Outcome.{seedsOut}
 use Rattle.definition.specs.Refusals.{badCount, badStart, badExtra, short, seedsNumber}
-use Rattle.checks.specs.Numbers.{past, stop}
-use Rattle.checks.specs.Good.{count-good}
+use Rattle.accepted.specs.Chain.{past, stop}
+use Rattle.accepted.specs.Checks.{count-good}
 use Rattle.draws.specs.Outcomes.{kept-meets, done-meets}
 use Rattle.draws.specs.Seeds.{seeds-leaves}
 use Rattle.draws.proofs.seeds_drawn.Statement.{statement}

@@ -1,12 +1,10 @@
--- `halts`.
+-- `halts`. Each end of the code is a case of the test.
 use mathlib.Core.Path.{refl}
 use borrow.Author.Needs.{needs}
 use borrow.Author.Tests.{lt-leb, le-leb}
 use Rattle.greedy.specs.Scratch.{haltsF}
 use Rattle.greedy.proofs.halts.Statement.{statement}
 use Rattle.greedy.proofs.halts.Tie as tie
-use Rattle.greedy.proofs.halts.Reads as reads
-use Rattle.greedy.proofs.halts.Lts as lts
 
 returns : tie.Need-returns
 unfolding haltsF

@@ -1,19 +1,13 @@
--- `meet`.
-use mathlib.Core.Path.{refl, sym, _∙_}
+-- `meet`. The code tests entry on the distances of work, lent as a part; it goes in, or nothing differs.
+use mathlib.Core.Path.{sym, _∙_}
 use Prim.Native.Nat.{_-_}
-use native.Mathlib.Omega.{arith}
-use borrow.Author.Needs.{needs}
 use Rattle.greedy.proofs.Pushing.{met-in, met-out}
+use borrow.Author.Needs.{needs}
 use Rattle.greedy.proofs.meet.Statement.{statement}
 use Rattle.greedy.proofs.meet.Tie as tie
-use Rattle.greedy.proofs.meet.Reads as reads
-use Rattle.greedy.proofs.meet.Lts as lts
-use Rattle.greedy.proofs.admits.Reads as admits-reads
-use Rattle.greedy.proofs.push.Reads as push-reads
-use Rattle.laws.proofs.least.Reads as least-reads
 
-add-fend : tie.Need-add-fend
-add-fend c = search needs
+work-dists-end-requires : tie.Need-work-dists-end-requires
+work-dists-end-requires c κs = search needs
 
 mul-admits : tie.Need-mul-admits
 mul-admits c = search needs
@@ -46,19 +40,29 @@ same-length-2 : tie.Need-same-length-2
 same-length-2 c = search needs
 
 returns : tie.Need-returns
-returns c = (rw (c .least .ensures) (met-in _ _ _ _ _ _ _ _ _ (omega arith) (omega arith) (sym (c .before .before .before .before .before .before .before .before .before .before .admits .ensures) ∙ c .before .before .before .before .before .before .before .before .before .if1 .taken) _ _ _ _ (c .before .before .before .before .before .before .push .ensures)), refl)
+returns c =
+    let q = c .before .before .before .before .before .before in
+    let a = q .before .before .before .before in
+    let s = a .before .before .before .before .before .before in
+    let t = sym (a .admits .ensures) ∙ q .before .before .before .if1 .taken in
+    rw (c .least .ensures)
+    (met-in (s .args .p) _ _ (s .pre .1 .0) (s .pre .1 .1) (rw (a .before .before .before .work-dists-end .ensures) at t) _ _ (q .push .ensures))
 
 same-length-3 : tie.Need-same-length-3
 same-length-3 c = search needs
 
 returns-2 : tie.Need-returns-2
-returns-2 c = (met-out _ _ _ _ _ _ _ _ _ (omega arith) (omega arith) (sym (c .before .admits .ensures) ∙ c .if1 .left), refl)
+returns-2 c =
+    let a = c .before in
+    let s = a .before .before .before .before .before .before in
+    let t = sym (a .admits .ensures) ∙ c .if1 .left in
+    met-out (s .args .p) _ _ (s .pre .1 .0) (s .pre .1 .1) (rw (a .before .before .before .work-dists-end .ensures) at t)
 
 pub meet-spec : {M : Type 1} → statement M
 meet-spec =
     tie.close
     (tie.spec
-    add-fend
+    work-dists-end-requires
     mul-admits
     sub-admits
     part-admits-start

@@ -1,23 +1,20 @@
--- `meet_each`.
-use mathlib.Core.Path.{_≡_, refl, _∙_}
+-- `meet_each`. The loop's invariant: the entries from `from` up to j were met. Nothing below work differs, so the next id and distance are as they were.
 use Prim.Native.Nat.{_-_, _≤_}
 use native.Mathlib.Omega.{arith}
-use borrow.Author.Needs.{needs}
+use Rattle.greedy.specs.Scratch.{standing, space-kept}
 use Rattle.greedy.proofs.Meeting.{MetTo, met-start, met-few, met-more, met-end, id-as}
+use borrow.Author.Needs.{needs}
 use Rattle.greedy.proofs.meet_each.Statement.{statement}
 use Rattle.greedy.proofs.meet_each.Tie as tie
-use Rattle.greedy.proofs.meet_each.Reads as reads
-use Rattle.greedy.proofs.meet_each.Lts as lts
-use Rattle.greedy.proofs.meet.Reads as meet-reads
 
 abbrev Inv-loop : tie.InvT-loop
-Inv-loop words₀ floats₀ n beam from c s₀ j₀ words floats s j = (from ≤ j) × (j ≤ c .visited) × (s .visited ≡ c .visited) × MetTo n beam words₀ floats₀ (c .frontier) (c .work) (c .done) from words floats (s .frontier) (s .work) (s .done) j
+Inv-loop words₀ floats₀ p from c n s₀ j₀ words floats s j = (from ≤ j) × (j ≤ c .visited) × MetTo p (standing words₀ floats₀ c) from (standing words floats s) j
 
 abbrev μ-loop : tie.MeasureT-loop
-μ-loop words₀ floats₀ n beam from c s₀ j₀ words floats s j = c .visited - j
+μ-loop words₀ floats₀ p from c n s₀ j₀ words floats s j = c .visited - j
 
 loop-holds : tie.Need-loop-holds Inv-loop μ-loop
-loop-holds c = let s = c .before .before in (omega arith, omega arith, refl, met-start _ _ _ _ _ _ _ (s .args .from) (omega arith) (omega arith))
+loop-holds c = let s = c .before .before in (omega arith, omega arith, met-start _ _ (s .args .from) (s .pre .1 .0 .0) (s .pre .1 .0 .1))
 
 add-at : tie.Need-add-at Inv-loop μ-loop
 add-at c = search needs
@@ -26,29 +23,28 @@ mul-id : tie.Need-mul-id Inv-loop μ-loop
 mul-id c = search needs
 
 slice-read-id : tie.Need-slice-read-id Inv-loop μ-loop
-slice-read-id c = search needs
+slice-read-id c =
+    let l = c .before .before .before .loop in
+    omega (arith, l .inv .2 .words-kept .size)
 
 mul-dist : tie.Need-mul-dist Inv-loop μ-loop
 mul-dist c = search needs
 
 slice-read-dist : tie.Need-slice-read-dist Inv-loop μ-loop
-slice-read-dist c = search needs
+slice-read-dist c =
+    let l = c .before .before .before .before .loop in
+    omega (arith, l .inv .2 .floats-kept .size)
 
 meet-requires : tie.Need-meet-requires Inv-loop μ-loop
-meet-requires c κs = let s = c .before .before .before .before .before .before .before .before .before in let i = c .before .before .before .before .before .before .loop .inv in let j = c .before .before .before .before .before .before .loop .j in
-    omega (
-      arith,
-      i .3 .words-kept .size,
-      i .3 .floats-kept .size,
-      i .3 .most,
-      i .3 .done-le,
-      s .pre .0,
-      s .pre .1 .0,
-      s .pre .1 .1 .0,
-      met-few _ _ _ _ _ _ _ _ (omega arith) (omega arith) _ _ _ _ _ j (i .3) (omega arith) (omega arith),
-      id-as _ _ _ _ _ _ _ _ (omega arith) (omega arith) _ _ _ _ _ j (i .3) (omega arith) (omega arith),
-      s .pre .1 .1 .1 j (omega arith) (omega arith),
-    )
+meet-requires c κs =
+    let l = c .before .before .before .before .before .before .loop in
+    let s = c .before .before .before .before .before .before .before .before .before in
+    let m = l .inv .2 in
+    let h = c .before .before .before .before .if1 .taken in
+    let few = met-few _ _ _ (s .pre .0) _ (l .j) m (l .inv .0) (omega arith) in
+    let own = id-as _ _ _ (s .pre .0) _ (l .j) m (l .inv .0) (omega arith) in
+    let low = s .pre .1 .1 .1 (l .j) (l .inv .0) h in
+    (space-kept (s .pre .0) (m .words-kept .size) (m .floats-kept .size), (m .most, m .done-le, omega arith, omega arith))
 
 add-j : tie.Need-add-j Inv-loop μ-loop
 add-j c = search needs
@@ -57,16 +53,21 @@ loop-less : tie.Need-loop-less Inv-loop μ-loop
 loop-less c = omega arith
 
 loop-again : tie.Need-loop-again Inv-loop μ-loop
-loop-again c = let i = c .before .before .before .before .before .before .before .before .before .before .before .loop .inv in (omega arith, omega arith, c .before .before .before .before .meet .ensures .1 ∙ i .2, met-more _ _ _ _ _ _ _ _ (omega arith) (omega arith) _ _ _ _ _ _ (i .3) (omega arith) (omega arith) _ _ _ _ _ (c .before .before .before .before .meet .ensures .0))
+loop-again c =
+    let l = c .before .before .before .before .before .before .before .before .before .before .before in
+    let s = l .before .before .before in
+    let m = c .before .before .before .before .meet .ensures in
+    let h = c .before .before .before .before .before .before .before .before .before .if1 .taken in
+    (omega arith, omega arith, met-more _ _ _ (s .pre .0) _ (l .loop .j) (l .loop .inv .2) (l .loop .inv .0) (omega arith) _ m)
 
 same-length : tie.Need-same-length Inv-loop μ-loop
-same-length c = search needs
+same-length c = c .before .before .loop .inv .2 .words-kept .size
 
 same-length-2 : tie.Need-same-length-2 Inv-loop μ-loop
-same-length-2 c = search needs
+same-length-2 c = c .before .before .loop .inv .2 .floats-kept .size
 
 returns : tie.Need-returns Inv-loop μ-loop
-returns c = let i = c .before .before .loop .inv in (met-end _ _ _ _ _ _ _ _ _ _ _ _ _ _ _ (omega arith) (i .3), i .2)
+returns c = let l = c .before .before .loop in met-end _ _ _ _ (l .j) _ (omega arith) (l .inv .2)
 
 pub meet-each-spec : {M : Type 1} → statement M
 meet-each-spec =

@@ -1,12 +1,10 @@
--- `next`.
+-- `next`. The loop's invariant: the best d are walked, as the best `done` were; a word that is even is a row that was walked.
 use Prim.Native.Nat.{_-_}
 use native.Mathlib.Omega.{arith}
 use borrow.Author.Needs.{needs}
 use Rattle.greedy.proofs.Passing.{Passed, none-passed, one-passed, all-passed, passed-to}
 use Rattle.greedy.proofs.next.Statement.{statement}
 use Rattle.greedy.proofs.next.Tie as tie
-use Rattle.greedy.proofs.next.Reads as reads
-use Rattle.greedy.proofs.next.Lts as lts
 
 abbrev Inv-loop : tie.InvT-loop
 Inv-loop work w done d₀ d = Passed work w done d
@@ -38,13 +36,20 @@ loop-less c = omega arith
 loop-again : tie.Need-loop-again Inv-loop μ-loop
 loop-again c =
     let l = c .before .before .before in
-    let s = l .before in one-passed (s .args .work .now) (s .args .w) (s .args .done) (l .loop .d) (s .pre .0) (c .before .before .loop-test .taken) (c .if1 .left) (l .loop .inv)
+    let s = l .before in
+    one-passed (s .args .work .now) (s .args .w) (s .args .done) (l .loop .d) (s .pre .0) (c .before .before .loop-test .taken) (c .if1 .left) (l .loop .inv)
 
 returns : tie.Need-returns Inv-loop μ-loop
-returns c = all-passed (c .before .before .args .work .now) (c .before .before .args .w) (c .before .before .args .done) (c .before .loop .d) (c .loop-test .left) (c .before .loop .inv)
+returns c =
+    let l = c .before in
+    let s = l .before in
+    all-passed (s .args .work .now) (s .args .w) (s .args .done) (l .loop .d) (c .loop-test .left) (l .loop .inv)
 
 returns-2 : tie.Need-returns-2 Inv-loop μ-loop
-returns-2 c = let l = c .before .before .before in let s = l .before in passed-to (s .args .work .now) (s .args .w) (s .args .done) (l .loop .d) (c .if1 .taken) (l .loop .inv)
+returns-2 c =
+    let l = c .before .before .before in
+    let s = l .before in
+    passed-to (s .args .work .now) (s .args .w) (s .args .done) (l .loop .d) (c .if1 .taken) (l .loop .inv)
 
 pub next-spec : {M : Type 1} → statement M
 next-spec =

@@ -1,12 +1,10 @@
--- `plain`.
+-- `plain`. The loop's invariant: the first i words are halved.
 use Prim.Native.Nat.{_-_}
 use native.Mathlib.Omega.{arith}
 use borrow.Author.Needs.{needs}
 use Rattle.greedy.proofs.Passing.{Halved, none-halved, one-halved, all-halved}
 use Rattle.greedy.proofs.plain.Statement.{statement}
 use Rattle.greedy.proofs.plain.Tie as tie
-use Rattle.greedy.proofs.plain.Reads as reads
-use Rattle.greedy.proofs.plain.Lts as lts
 
 abbrev Inv-loop : tie.InvT-loop
 Inv-loop work₀ w i₀ work i = Halved work₀ work w i
@@ -38,13 +36,17 @@ loop-less c = omega arith
 loop-again : tie.Need-loop-again Inv-loop μ-loop
 loop-again c =
     let l = c .before .before in
-    let s = l .before in one-halved (s .args .work .now) (l .loop .work) (s .args .w) (l .loop .i) (s .pre) (c .before .loop-test .taken) (l .loop .inv)
+    let s = l .before in
+    one-halved (s .args .work .now) (l .loop .work) (s .args .w) (l .loop .i) (s .pre) (c .before .loop-test .taken) (l .loop .inv)
 
 same-length : tie.Need-same-length Inv-loop μ-loop
 same-length c = search needs
 
 returns : tie.Need-returns Inv-loop μ-loop
-returns c = all-halved (c .before .before .args .work .now) (c .before .loop .work) (c .before .before .args .w) (c .before .loop .i) (c .loop-test .left) (c .before .loop .inv)
+returns c =
+    let l = c .before in
+    let s = l .before in
+    all-halved (s .args .work .now) (l .loop .work) (s .args .w) (l .loop .i) (c .loop-test .left) (l .loop .inv)
 
 pub plain-spec : {M : Type 1} → statement M
 plain-spec =

@@ -1,12 +1,9 @@
--- `next_epoch`.
+-- `next_epoch`. At the last epoch the marks are cleared; else none is past it.
 use native.Mathlib.Omega.{arith}
 use borrow.Author.Needs.{needs}
 use Rattle.marks.specs.Epochs.{epoch-more, epoch-clear}
 use Rattle.marks.proofs.next_epoch.Statement.{statement}
 use Rattle.marks.proofs.next_epoch.Tie as tie
-use Rattle.marks.proofs.next_epoch.Reads as reads
-use Rattle.marks.proofs.next_epoch.Lts as lts
-use Rattle.scratch.proofs.clear_words.Reads as clear-words-reads
 
 sub-clear-words : tie.Need-sub-clear-words
 sub-clear-words c = search needs
@@ -24,7 +21,11 @@ same-length : tie.Need-same-length
 same-length c = search needs
 
 returns : tie.Need-returns
-returns c = let s = c .before .before .before .before .before .before in epoch-clear (s .args .n) (s .args .words .now) (s .args .epoch) (omega arith) (c .before .before .before .before .if1 .taken) (c .before .before .clear-words .last .0) (c .before .before .clear-words .ensures)
+returns c =
+    let t = c .before .before in
+    let s = t .before .before .before .before in
+    epoch-clear (s .args .n) (s .args .words .now) (s .args .epoch) (omega arith) (t .before .before .if1 .taken) (t .clear-words .last .0)
+    (t .clear-words .ensures)
 
 add-result : tie.Need-add-result
 add-result c = search needs

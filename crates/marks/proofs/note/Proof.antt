@@ -1,4 +1,4 @@
--- `note`.
+-- `note`. Past the test of the mark an unmarked entry is left, so there is room behind the visited.
 use Prim.Native.Nat.{_<_}
 use native.Mathlib.Omega.{arith}
 use lib.ListN.{length-set}
@@ -6,10 +6,7 @@ use borrow.Author.Needs.{needs}
 use Rattle.marks.proofs.Noting.{unfull, note-old, note-new}
 use Rattle.marks.proofs.note.Statement.{statement}
 use Rattle.marks.proofs.note.Tie as tie
-use Rattle.marks.proofs.note.Reads as reads
-use Rattle.marks.proofs.note.Lts as lts
 
--- past the test of the mark not all were visited
 free : (c : tie.Else1) → c .before .before .args .v < c .before .before .args .n
 free c = let s = c .before .before in unfull _ _ _ _ (s .pre .0) _ (s .pre .1) (c .if1 .left)
 

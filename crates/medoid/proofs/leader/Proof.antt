@@ -32,9 +32,11 @@ loop-less c = omega arith
 
 loop-again : tie.Need-loop-again Inv-loop μ-loop
 loop-again c =
+    let more = c .before .before .loop-test .taken in
+    let leads = c .before .before .before .loop .inv in
     ⊎-elim
-    (λ w. rw (w .1, w .2) (lead-taken _ _ _ _ _ _ _ (c .before .before .loop-test .taken) (c .before .score2 .ensures) (c .before .before .before .loop .inv) (w .0 .taken)))
-    (λ w. rw (w .1, w .2) (lead-kept _ _ _ _ _ _ _ (c .before .before .loop-test .taken) (c .before .score2 .ensures) (c .before .before .before .loop .inv) (w .0 .left)))
+    (λ w. rw (w .1, w .2) (lead-taken _ _ _ _ _ _ _ more (c .before .score2 .ensures) leads (w .0 .taken)))
+    (λ w. rw (w .1, w .2) (lead-kept _ _ _ _ _ _ _ more (c .before .score2 .ensures) leads (w .0 .left)))
     (c .if1 .came)
 
 returns : tie.Need-returns Inv-loop μ-loop

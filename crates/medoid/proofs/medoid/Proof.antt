@@ -6,8 +6,9 @@ use borrow.Author.Needs.{needs}
 use Rattle.definition.specs.Floats.{nought}
 use Rattle.definition.specs.Outcome.{answer, medoidOut}
 use Rattle.definition.specs.Refusals.{MedoidCall, medoidNumber}
+use Rattle.laws.specs.Members.{mem-at}
 use Rattle.answers.specs.Numbered.{refused-is, success-is}
-use Rattle.checks_number.specs.MedoidNumber.{MedoidAccepted, medoid-accepted}
+use Rattle.accepted.specs.Medoid.{MedoidAccepted, medoid-accepted}
 use Rattle.medoid.proofs.medoid.Statement.{statement}
 use Rattle.medoid.proofs.medoid.Tie as tie
 
@@ -38,7 +39,7 @@ returns c = let some = c .before .if1 .taken in c .refused .ensures ∙ refused-
 leader-requires : tie.Need-leader-requires
 leader-requires c κs =
     let a = accepted c in
-    (a .entries .nodes-some, a .entries .dim-few, a .entries .vectors-are, a .pivots .below)
+    (a .entries .nodes-some, a .entries .dim-few, a .entries .vectors-are, λ j h. a .pivots .below _ (mem-at 0 _ j h))
 
 cast-chosen : tie.Need-cast-chosen
 cast-chosen c = let few = accepted (c .before) .entries .nodes in record { fits = omega (arith, c .leader .ensures .1) }

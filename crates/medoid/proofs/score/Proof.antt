@@ -7,7 +7,6 @@ use lib.ListN.{length, drop}
 use Rattle.definition.specs.Metric.{between}
 use Rattle.definition.specs.Medoid.{scoreFrom, score}
 use Rattle.definition.specs.Floats.{nought}
-use Rattle.checks.specs.Below.{below-at}
 use Rattle.metric.specs.Laws.{vector-in}
 use Rattle.medoid.specs.Turns.{score-start, score-turn, score-end}
 use Rattle.medoid.proofs.score.Statement.{statement}
@@ -35,7 +34,7 @@ cast-p c = record { fits = omega (arith, c .shared-slice-known3 .given (c .befor
 between-requires : tie.Need-between-requires Inv-loop μ-loop
 between-requires c κs =
     let p = c .before .before .before .before .before .pre in
-    (vector-in _ _ _ _ (p .1) (p .2), (vector-in _ _ _ _ (p .1) (below-at _ _ _ (p .3) (c .before .loop-test .taken)), p .0))
+    (vector-in _ _ _ _ (p .1) (p .2), (vector-in _ _ _ _ (p .1) (p .3 _ (c .before .loop-test .taken)), p .0))
 
 add-j : tie.Need-add-j Inv-loop μ-loop
 add-j c = search needs

@@ -29,8 +29,9 @@ same-length c = search needs
 
 returns : tie.Need-returns
 returns c =
-    let s = c .before .before .before .before .before .before .before .before .before in
-    c .before .before .shade-rest .ensures .are (s .args .taken) (lent-vector _ _ _)
+    let rest = c .before .before in
+    let s = rest .before .before .before .before .before .before .before in
+    rest .shade-rest .ensures .are (s .args .taken) (lent-vector _ _ _)
 
 pub shade-later-spec : {M : Type 1} → statement M
 shade-later-spec =

@@ -1,18 +1,14 @@
 -- `take_rounds` meets its contract. The ids taken so far, and what the rest of this round and the rounds after it take, make up the result.
-use mathlib.Core.Path.{_≡_, sym, _∙_, subst}
+use mathlib.Core.Path.{sym, _∙_, subst}
 use mathlib.Core.Logic.{⊎-elim}
-use Prim.Native.Nat.{ℕ, _+_, _-_, _<_}
+use Prim.Native.Nat.{_-_, _<_}
 use native.Mathlib.Omega.{arith}
-use lib.ListN.{length, set, take, length-set}
-use mathlib.Core.List.{_++_}
-use Rattle.definition.specs.Metric.{between}
-use Rattle.prune_items.specs.Items.{itemsOf}
-use Rattle.prune_items.specs.Held.{all-at}
+use lib.ListN.{length, length-set}
+use Rattle.laws.specs.All.{all-at}
 use Rattle.metric.specs.Exact.{VectorIn}
-use Rattle.prune.specs.Says.{roundsOf, shadedFrom}
+use Rattle.prune.specs.Says.{roundsOf}
 use Rattle.definition.specs.Floats.{largest}
-use Rattle.prune.proofs.Walking.{onward}
-use Rattle.prune.proofs.Steps.{Walk, Going, walk-same, going-first, walk-skip, walk-take, walk-first, full, last-round, reached, again}
+use Rattle.prune.proofs.Steps.{fromRound, Walk, Going, walk-same, going-first, walk-skip, walk-take, walk-first, full, last-round, reached, again}
 use borrow.Author.Needs.{needs}
 use borrow.Author.Tests.{not-true, not-false}
 use Rattle.prune.proofs.take_rounds.Statement.{statement}
@@ -20,7 +16,8 @@ use Rattle.prune.proofs.take_rounds.Tie as tie
 
 abbrev Inv-loop : tie.InvT-loop
 Inv-loop vectors dim ids dists factors₀ row₀ degree alpha m target current count₀ round i₀ factors row count i =
-    Walk dim vectors ids dists target (8 - round) current degree (take count₀ row₀ ++ onward (between dim vectors) target (8 - round) current (degree - count₀) (itemsOf ids dists) factors₀ 0) (length row₀) factors row count i
+    Walk dim vectors ids dists target (8 - round) current degree (fromRound dim vectors ids dists target current degree round factors₀ row₀ count₀)
+    (length row₀) factors row count i
 
 abbrev μ-loop : tie.MeasureT-loop
 μ-loop vectors dim ids dists factors₀ row₀ degree alpha m target current count₀ round i₀ factors row count i =
@@ -40,13 +37,10 @@ target-of-requires c κs = search needs
 rounds-holds : tie.Need-rounds-holds Inv-loop μ-loop Inv-rounds μ-rounds
 rounds-holds c =
     let s = c .before .before .before .before .before .before in
-    going-first (s .args .dim) (s .args .vectors .now) (s .args .ids .now) (s .args .dists .now) (c .target-of .result) (s .args .degree) (s .pre .0 .same) (s .args .alpha) (s .args .factors .now) (s .args .row .now) (c .target-of .ensures) (s .pre .1 .0)
+    going-first (s .args .alpha) (s .args .factors .now) (s .args .row .now) (c .target-of .ensures) (s .pre .1 .0)
 
 loop-holds : tie.Need-loop-holds Inv-loop μ-loop Inv-rounds μ-rounds
-loop-holds c =
-    let s = c .before .before .before .before .before .before .before in
-    let g = c .rounds in
-    walk-first (s .args .dim) (s .args .vectors .now) (s .args .ids .now) (s .args .dists .now) (c .before .target-of .result) (s .args .degree) (s .pre .0 .same) _ _ _ _ _ _ _ (g .inv)
+loop-holds c = walk-first (c .rounds .inv)
 
 mul-if2 : tie.Need-mul-if2 Inv-loop μ-loop Inv-rounds μ-rounds
 mul-if2 c = search needs
@@ -75,20 +69,22 @@ mul-factors c = search needs
 slice-write-factors : tie.Need-slice-write-factors Inv-loop μ-loop Inv-rounds μ-rounds
 slice-write-factors c = search needs
 
-wide-requires : tie.Need-wide-requires Inv-loop μ-loop Inv-rounds μ-rounds
-wide-requires c κs = search needs
+index-of-requires : tie.Need-index-of-requires Inv-loop μ-loop Inv-rounds μ-rounds
+index-of-requires c κs = search needs
 
 add-shade-later : tie.Need-add-shade-later Inv-loop μ-loop Inv-rounds μ-rounds
 add-shade-later c = search needs
 
 shade-later-requires : tie.Need-shade-later-requires Inv-loop μ-loop Inv-rounds μ-rounds
 shade-later-requires c κs =
-    let s = c .before .before .before .before .before .before .before .before .before .before .before .before .before .before .before in
-    let l = c .before .before .before .before .before .before .before .loop in (
+    let turn = c .before .before .before .before .before .before .before in
+    let l = turn .loop in
+    let s = turn .before .before .before .before .before .before .before .before in
+    let In = VectorIn (s .args .dim) (s .args .vectors .now) in (
       s .pre .0,
       (
         (length-set (l .factors) (l .i) _ ∙ l .inv .nf, omega arith),
-        subst (VectorIn (s .args .dim) (s .args .vectors .now)) (sym (c .before .wide .ensures)) (all-at (VectorIn (s .args .dim) (s .args .vectors .now)) 0 (s .args .ids .now) (s .pre .0 .rows) (l .i) (omega arith)),
+        subst In (sym (c .before .index-of .ensures)) (all-at In 0 (s .args .ids .now) (s .pre .0 .rows) (l .i) (omega arith)),
       ),
     )
 
@@ -101,17 +97,18 @@ loop-less c = omega arith
 loop-again : tie.Need-loop-again Inv-loop μ-loop Inv-rounds μ-rounds
 unfolding largest
 loop-again c =
-    let s = c .before .before .before .before .before .before .before .before .before .before .before .before in
-    let t = c .before .before .before .before .before .before .target-of .result in
-    let l = c .before .before .before .before .loop in
+    let turn = c .before .before .before .before in
+    let l = turn .loop in
+    let s = turn .before .before .before .before .before .before .before .before in
+    let same = s .pre .0 .same in
     let h : l .i < length (s .args .ids .now) = omega arith in
     let room : l .count < s .args .degree = omega arith in
+    let wide = turn .before .rounds .inv .nr in
     ⊎-elim
     (λ w. walk-same (w .7) (w .8) (w .9)
-    (walk-take (s .args .dim) (s .args .vectors .now) (s .args .ids .now) (s .args .dists .now) t (s .args .degree) (s .pre .0 .same) _ _ _ _ _ _ _ _ (l .inv) h room (not-true _ (w .0 .taken))
-    (omega (arith, s .pre .1 .1, c .before .before .before .before .before .rounds .inv .nr)) (w .4 .last .1 .1 .1 .1 .0) (w .4 .kept .1 .1 .1 .1 .0 ∙ length-set (l .factors) (l .i) largest)
-    (subst (λ (k : ℕ). w .4 .last .1 .1 .1 .1 .0 ≡ shadedFrom (s .args .dim) (s .args .vectors .now) (s .args .ids .now) (s .args .dists .now) t k (l .i + 1) (set (l .factors) (l .i) largest)) (w .2 .ensures) (w .4 .ensures))))
-    (λ w. walk-same (w .1) (w .2) (w .3) (walk-skip (s .args .dim) (s .args .vectors .now) (s .args .ids .now) (s .args .dists .now) t (s .args .degree) (s .pre .0 .same) _ _ _ _ _ _ _ _ (l .inv) h room (not-false _ (w .0 .left))))
+    (walk-take same (l .inv) h room (not-true _ (w .0 .taken)) (omega (arith, s .pre .1 .1, wide))
+    (w .4 .kept .1 .1 .1 .1 .0 ∙ length-set (l .factors) (l .i) largest) (rw (w .2 .ensures) at (w .4 .ensures))))
+    (λ w. walk-same (w .1) (w .2) (w .3) (walk-skip same (l .inv) h room (not-false _ (w .0 .left))))
     (c .if2 .came)
 
 add-round : tie.Need-add-round Inv-loop μ-loop Inv-rounds μ-rounds
@@ -125,11 +122,10 @@ rounds-less c = omega arith
 
 rounds-again : tie.Need-rounds-again Inv-loop μ-loop Inv-rounds μ-rounds
 rounds-again c =
-    let s = c .before .before .before .before .before .before .before .before .before .before .before .before in
-    let g = c .before .before .before .before .before .rounds in
-    let l = c .before .before .before .before .loop in
-    rw (c .next-alpha .ensures)
-    (again (s .args .dim) (s .args .vectors .now) (s .args .ids .now) (s .args .dists .now) _ (s .args .degree) (s .pre .0 .same) _ _ _ _ _ _ _ (g .inv) _ _ _ _ (l .inv) (omega arith) (omega arith) (c .before .if4 .taken) (g .inv .nr))
+    let turn = c .before .before .before .before in
+    let g = turn .before .rounds in
+    let s = turn .before .before .before .before .before .before .before .before in
+    rw (c .next-alpha .ensures) (again (g .inv) (s .pre .0 .same) (turn .loop .inv) (omega arith) (omega arith) (c .before .if4 .taken) (g .inv .nr))
 
 same-length : tie.Need-same-length Inv-loop μ-loop Inv-rounds μ-rounds
 same-length c = search needs
@@ -139,10 +135,9 @@ same-length-2 c = search needs
 
 returns : tie.Need-returns Inv-loop μ-loop Inv-rounds μ-rounds
 returns c =
-    let s = c .before .before .before .before .before .before .before .before .before .before in
-    let g = c .before .before .before .rounds in
-    let l = c .before .before .loop in
-    full (s .args .dim) (s .args .vectors .now) (s .args .ids .now) (s .args .dists .now) _ (s .args .degree) (s .pre .0 .same) _ _ _ _ _ _ _ (g .inv) _ _ _ _ (l .inv) (c .if1 .taken)
+    let turn = c .before .before in
+    let s = turn .before .before .before .before .before .before .before .before in
+    full (turn .before .rounds .inv) (s .pre .0 .same) (turn .loop .inv) (c .if1 .taken)
 
 same-length-3 : tie.Need-same-length-3 Inv-loop μ-loop Inv-rounds μ-rounds
 same-length-3 c = search needs
@@ -152,10 +147,9 @@ same-length-4 c = search needs
 
 returns-2 : tie.Need-returns-2 Inv-loop μ-loop Inv-rounds μ-rounds
 returns-2 c =
-    let s = c .before .before .before .before .before .before .before .before .before .before in
-    let g = c .before .before .before .rounds in
-    let l = c .before .before .loop in
-    last-round (s .args .dim) (s .args .vectors .now) (s .args .ids .now) (s .args .dists .now) _ (s .args .degree) (s .pre .0 .same) _ _ _ _ _ _ _ (g .inv) _ _ _ _ (l .inv) (omega arith) (omega arith)
+    let turn = c .before .before in
+    let s = turn .before .before .before .before .before .before .before .before in
+    last-round (turn .before .rounds .inv) (s .pre .0 .same) (turn .loop .inv) (omega arith) (omega arith)
 
 same-length-5 : tie.Need-same-length-5 Inv-loop μ-loop Inv-rounds μ-rounds
 same-length-5 c = search needs
@@ -165,10 +159,9 @@ same-length-6 c = search needs
 
 returns-3 : tie.Need-returns-3 Inv-loop μ-loop Inv-rounds μ-rounds
 returns-3 c =
-    let s = c .before .before .before .before .before .before .before .before .before .before .before in
-    let g = c .before .before .before .before .rounds in
-    let l = c .before .before .before .loop in
-    reached (s .args .dim) (s .args .vectors .now) (s .args .ids .now) (s .args .dists .now) _ (s .args .degree) (s .pre .0 .same) _ _ _ _ _ _ _ (g .inv) _ _ _ _ (l .inv) (omega arith) (c .if4 .left)
+    let turn = c .before .before .before in
+    let s = turn .before .before .before .before .before .before .before .before in
+    reached (turn .before .rounds .inv) (s .pre .0 .same) (turn .loop .inv) (omega arith) (c .if4 .left)
 
 pub take-rounds-spec : {M : Type 1} → statement M
 take-rounds-spec =
@@ -190,7 +183,7 @@ take-rounds-spec =
     add-count
     mul-factors
     slice-write-factors
-    wide-requires
+    index-of-requires
     add-shade-later
     shade-later-requires
     add-i

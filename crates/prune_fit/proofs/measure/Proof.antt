@@ -1,10 +1,10 @@
--- `measure`: the distances of a list of ids.
-use Rattle.prune_fit.proofs.Measuring.{Measuring, measure-start, measure-on, measure-end, row-at}
+-- `measure` meets its contract. The invariant: the first k distances are those of the first k ids.
 use mathlib.Core.Path.{_≡_, refl}
 use Prim.Native.Nat.{_-_}
 use native.Mathlib.Omega.{arith}
 use lib.ListN.{length}
 use borrow.Author.Needs.{needs}
+use Rattle.prune_fit.proofs.Measuring.{Measuring, measure-start, measure-on, measure-end, row-at}
 use Rattle.prune_fit.proofs.measure.Statement.{statement}
 use Rattle.prune_fit.proofs.measure.Tie as tie
 
@@ -27,7 +27,9 @@ index-of-requires : tie.Need-index-of-requires Inv-loop μ-loop
 index-of-requires c κs = search needs
 
 between-requires : tie.Need-between-requires Inv-loop μ-loop
-between-requires c κs = (c .before .before .before .before .before .before .before .pre .1 .0, (row-at _ _ 0 (c .before .before .before .before .before .before .before .args .ids .now) (c .before .before .before .before .before .before .before .pre .1 .1) (c .before .before .before .loop .k) _ (omega arith) (c .index-of .ensures), omega arith))
+between-requires c κs =
+    let s = c .before .before .before .before .before .before .before in
+    (s .pre .1 .0, (row-at _ _ 0 (s .args .ids .now) (s .pre .1 .1) (c .before .before .before .loop .k) _ (omega arith) (c .index-of .ensures), omega arith))
 
 mul-dists : tie.Need-mul-dists Inv-loop μ-loop
 mul-dists c = search needs
@@ -42,7 +44,9 @@ loop-less : tie.Need-loop-less Inv-loop μ-loop
 loop-less c = omega arith
 
 loop-again : tie.Need-loop-again Inv-loop μ-loop
-loop-again c = (c .before .before .before .before .loop .inv .0, measure-on _ _ _ _ _ _ _ _ (c .before .before .before .before .loop .inv .1) (omega arith) (c .before .index-of .ensures) (c .between .ensures))
+loop-again c =
+    let turn = c .before .before .before .before .loop .inv in
+    (turn .0, measure-on _ _ _ _ _ _ _ _ (turn .1) (omega arith) (c .before .index-of .ensures) (c .between .ensures))
 
 same-length : tie.Need-same-length Inv-loop μ-loop
 same-length c = search needs

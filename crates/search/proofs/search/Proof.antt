@@ -1,24 +1,17 @@
--- `search`: refused by its number, or accepted.
-use mathlib.Core.Path.{_≡_, refl, sym, ap, _∙_, subst}
-use mathlib.Core.Logic.{⊎-elim}
-use Prim.Native.Nat.{ℕ, suc, _+_, _-_, _*_, _≤_, _<_}
-use native.Mathlib.Omega.{arith}
-use lib.ListN.{length, getD, set, take, drop, length-set}
-use borrow.Author.Needs.{needs}
+-- `search`. It is refused by its number, or accepted.
 use Rattle.definition.specs.Refusals.{SearchCall}
 use Rattle.checks_number.specs.SearchNumber.{callOf}
 use Rattle.search.specs.Statement.{beside-accepted, search-refused, search-done}
+use borrow.Author.Needs.{needs}
 use Rattle.search.proofs.search.Statement.{statement}
 use Rattle.search.proofs.search.Tie as tie
-use Rattle.search.proofs.search.Reads as reads
-use Rattle.search.proofs.search.Lts as lts
-use Rattle.answers.proofs.refused.Reads as refused-reads
-use Rattle.checks_number.proofs.search_number.Reads as search-number-reads
-use Rattle.search.proofs.search_accepted.Reads as search-accepted-reads
 
 -- the call
 abbrev asked : tie.Start → SearchCall
-asked s = callOf (s .args .n) (s .args .dim) (s .args .vectors .now) (s .args .degree) (s .args .beam) (s .args .k) (s .args .start) (s .args .table .now) (s .args .query .now) (s .args .words .now) (s .args .floats .now) (s .args .ids .now) (s .args .dists .now)
+asked s =
+    let a = s .args in
+    callOf (a .n) (a .dim) (a .vectors .now) (a .degree) (a .beam) (a .k) (a .start) (a .table .now) (a .query .now)
+    (a .words .now) (a .floats .now) (a .ids .now) (a .dists .now)
 
 search-number-requires : tie.Need-search-number-requires
 search-number-requires c κs = search needs
@@ -27,10 +20,16 @@ refused-requires : tie.Need-refused-requires
 refused-requires c κs = search needs
 
 returns : tie.Need-returns
-returns c = search-refused (asked (c .before .before .before .before .before .before .before .before .before .before)) _ (c .before .before .search-number .ensures) (c .before .if1 .taken) _ (c .refused .ensures)
+returns c =
+    let n = c .before .before in
+    let s = n .before .before .before .before .before .before .before .before in
+    search-refused (asked s) _ (n .search-number .ensures) (c .before .if1 .taken) _ (c .refused .ensures)
 
 search-accepted-requires : tie.Need-search-accepted-requires
-search-accepted-requires c κs = beside-accepted (asked (c .before .before .before .before .before .before .before .before .before .before .before .before .before)) _ _ (c .before .before .before .before .before .search-number .ensures) (c .before .before .before .before .if1 .left) .0
+search-accepted-requires c κs =
+    let n = c .before .before .before .before .before in
+    let s = n .before .before .before .before .before .before .before .before in
+    beside-accepted (asked s) _ _ (n .search-number .ensures) (c .before .before .before .before .if1 .left) .0
 
 same-length : tie.Need-same-length
 same-length c = search needs
@@ -45,7 +44,11 @@ same-length-4 : tie.Need-same-length-4
 same-length-4 c = search needs
 
 returns-2 : tie.Need-returns-2
-returns-2 c = search-done (asked (c .before .before .before .before .before .before .before .before .before .before .before .before .before .before .before .before .before .before .before .before .before .before)) _ (c .before .before .before .before .before .before .before .before .before .before .before .before .before .before .search-number .ensures) (c .before .before .before .before .before .before .before .before .before .before .before .before .before .if1 .left) _ (c .before .before .before .before .before .before .before .before .search-accepted .ensures)
+returns-2 c =
+    let k = c .before .before .before .before .before .before .before .before in
+    let n = k .before .before .before .before .before .before in
+    let s = n .before .before .before .before .before .before .before .before in
+    search-done (asked s) _ (n .search-number .ensures) (k .before .before .before .before .before .if1 .left) _ (k .search-accepted .ensures)
 
 pub search-spec : {M : Type 1} → statement M
 search-spec =

@@ -1,28 +1,18 @@
--- `search_accepted`: the walk may begin, its work may be listed, the room may be wiped.
-use mathlib.Core.Path.{_≡_, refl, sym, ap, _∙_, subst}
-use mathlib.Core.Logic.{⊎-elim}
-use Prim.Native.Nat.{ℕ, suc, _+_, _-_, _*_, _≤_, _<_}
-use native.Mathlib.Omega.{arith}
-use lib.ListN.{length, getD, set, take, drop, length-set}
-use borrow.Author.Needs.{needs}
+-- `search_accepted`. The walk may begin, its work may be listed from the parts it lies in, the room may be wiped.
+use mathlib.Core.Path.{_∙_}
 use Rattle.definition.specs.Refusals.{SearchCall}
 use Rattle.checks_number.specs.SearchNumber.{callOf}
-use Rattle.search.proofs.Passing.{front, start-room, start-measures, list-from, list-to, wipe-room, done}
+use Rattle.search.proofs.Passing.{front, start-ground, start-room, list-from, list-to, done}
+use borrow.Author.Needs.{needs}
 use Rattle.search.proofs.search_accepted.Statement.{statement}
 use Rattle.search.proofs.search_accepted.Tie as tie
-use Rattle.search.proofs.search_accepted.Reads as reads
-use Rattle.search.proofs.search_accepted.Lts as lts
-use Rattle.answers.proofs.found.Reads as found-reads
-use Rattle.greedy.proofs.greedy.Reads as greedy-reads
-use Rattle.scratch.proofs.clear_words.Reads as clear-words-reads
-use Rattle.laws.proofs.least.Reads as least-reads
-use Rattle.search.proofs.list_answers.Reads as list-answers-reads
-use Rattle.search.proofs.raised.Reads as raised-reads
-use Rattle.search.proofs.wipe.Reads as wipe-reads
 
 -- the call
 abbrev asked : tie.Start → SearchCall
-asked s = callOf (s .args .n) (s .args .dim) (s .args .vectors .now) (s .args .degree) (s .args .beam) (s .args .k) (s .args .start) (s .args .table .now) (s .args .query .now) (s .args .words .now) (s .args .floats .now) (s .args .ids .now) (s .args .dists .now)
+asked s =
+    let a = s .args in
+    callOf (a .n) (a .dim) (a .vectors .now) (a .degree) (a .beam) (a .k) (a .start) (a .table .now) (a .query .now)
+    (a .words .now) (a .floats .now) (a .ids .now) (a .dists .now)
 
 raised-requires : tie.Need-raised-requires
 raised-requires c κs = search needs
@@ -40,22 +30,23 @@ clear-words-requires : tie.Need-clear-words-requires
 clear-words-requires c κs = search needs
 
 greedy-requires : tie.Need-greedy-requires
-greedy-requires c κs = (
-  start-room (asked (c .before .before .before .before .before .before .before .before .before .before .before .before .before .before)) (c .before .before .before .before .before .before .before .before .before .before .before .before .before .before .pre) _ (c .before .before .before .before .clear-words .ensures) _ (c .before .before .before .before .before .before .raised .ensures),
-  (start-measures (asked (c .before .before .before .before .before .before .before .before .before .before .before .before .before .before)) (c .before .before .before .before .before .before .before .before .before .before .before .before .before .before .pre) _ (c .before .before .before .before .clear-words .ensures) _ (c .before .before .before .before .before .before .raised .ensures), ((c .before .before .before .before .before .before .before .before .before .before .before .before .before .before .pre .table-is, omega (arith, c .before .before .before .before .before .before .before .before .before .before .before .before .before .before .pre .degree-few), c .before .before .before .before .before .before .before .before .before .before .before .before .before .before .pre .start-in), c .before .before .before .before .before .before .before .before .before .before .before .before .before .before .pre .rows)),
-)
+greedy-requires c κs =
+    let k = c .before .before .before .before in
+    let b = k .before .before in
+    let s = b .before .before .before .before .before .before .before .before in
+    (start-room (asked s) (s .pre) _ (k .clear-words .ensures) _ (b .raised .ensures), (start-ground (asked s) (s .pre) _, s .pre .start-in))
 
 least-requires : tie.Need-least-requires
 least-requires c κs = search needs
 
-mul-w : tie.Need-mul-w
-mul-w c = search needs
+work-at-requires : tie.Need-work-at-requires
+work-at-requires c κs = search needs
 
-add-we : tie.Need-add-we
-add-we c = search needs
+work-end-requires : tie.Need-work-end-requires
+work-end-requires c κs = search needs
 
-add-fe : tie.Need-add-fe
-add-fe c = search needs
+work-dists-end-requires : tie.Need-work-dists-end-requires
+work-dists-end-requires c κs = search needs
 
 mul-list-answers : tie.Need-mul-list-answers
 mul-list-answers c = search needs
@@ -82,19 +73,34 @@ part-list-answers-end-2 : tie.Need-part-list-answers-end-2
 part-list-answers-end-2 c = search needs
 
 list-answers-requires : tie.Need-list-answers-requires
-list-answers-requires c κs = (
-  list-from (asked (c .before .before .before .before .before .before .before .before .before .before .before .before .before .before .before .before .before .before .before .before .before .before .before .before .before .before)) (c .before .before .before .before .before .before .before .before .before .before .before .before .before .before .before .before .before .before .before .before .before .before .before .before .before .before .pre) _ (c .before .before .before .before .before .before .before .before .before .before .before .before .before .before .before .before .clear-words .ensures) _ (c .before .before .before .before .before .before .before .before .before .before .before .before .before .before .before .before .before .before .raised .ensures) _ _ _ _ _ (c .before .before .before .before .before .before .before .before .before .before .before .greedy .ensures) _ (c .before .before .before .before .before .before .least .ensures),
-  list-to (asked (c .before .before .before .before .before .before .before .before .before .before .before .before .before .before .before .before .before .before .before .before .before .before .before .before .before .before)) (c .before .before .before .before .before .before .before .before .before .before .before .before .before .before .before .before .before .before .before .before .before .before .before .before .before .before .pre) _ (c .before .before .before .before .before .before .before .before .before .before .before .before .before .before .before .before .clear-words .ensures) _ (c .before .before .before .before .before .before .before .before .before .before .before .before .before .before .before .before .before .before .raised .ensures) _ _ _ _ _ (c .before .before .before .before .before .before .before .before .before .before .before .greedy .ensures) _ (c .before .before .before .before .before .before .least .ensures),
-)
+list-answers-requires c κs =
+    let o = c .before .before .before .before .before .before in
+    let l = o .before .before .before in
+    let g = l .before .before .before .before .before in
+    let k = g .before .before .before .before .before in
+    let b = k .before .before in
+    let s = b .before .before .before .before .before .before .before .before in
+    let zeros = k .clear-words .ensures in
+    rw (o .before .before .work-at .ensures, o .before .work-end .ensures, o .work-dists-end .ensures) (
+      list-from (asked s) (s .pre) _ zeros _ (b .raised .ensures) _ _ (g .greedy .ensures) _ (l .least .ensures),
+      list-to (asked s) (s .pre) _ zeros _ (b .raised .ensures) _ _ (g .greedy .ensures) _ (l .least .ensures),
+    )
 
 wipe-requires : tie.Need-wipe-requires
-wipe-requires c κs = wipe-room (asked (c .before .before .before .before .before .before .before .before .before .before .before .before .before .before .before .before .before .before .before .before .before .before .before .before .before .before .before .before .before .before .before .before .before)) (c .before .before .before .before .before .before .before .before .before .before .before .before .before .before .before .before .before .before .before .before .before .before .before .before .before .before .before .before .before .before .before .before .before .pre) _ (c .before .before .before .before .before .before .before .before .before .before .before .before .before .before .before .before .before .before .before .before .before .before .before .clear-words .ensures) _ (c .before .before .before .before .before .before .before .before .before .before .before .before .before .before .before .before .before .before .before .before .before .before .before .before .before .raised .ensures) _ _ _ _ _ (c .before .before .before .before .before .before .before .before .before .before .before .before .before .before .before .before .before .before .greedy .ensures) _ (c .before .before .before .before .before .before .before .before .before .before .before .before .before .least .ensures)
+wipe-requires c κs = search needs
 
 found-requires : tie.Need-found-requires
 found-requires c κs = search needs
 
 same-length : tie.Need-same-length
-same-length c = search (needs, c .before .before .before .before .before .before .before .before .before .before .before .before .before .before .before .before .before .before .before .before .before .before .before .before .greedy .kept .0, front (asked (c .before .before .before .before .before .before .before .before .before .before .before .before .before .before .before .before .before .before .before .before .before .before .before .before .before .before .before .before .before .before .before .before .before .before .before .before .before .before .before)) (c .before .before .before .before .before .before .before .before .before .before .before .before .before .before .before .before .before .before .before .before .before .before .before .before .before .before .before .before .before .before .before .before .before .before .before .before .before .before .before .pre) _ (c .before .before .before .before .before .before .before .before .before .before .before .before .before .before .before .before .before .before .before .before .before .before .before .before .before .before .before .before .before .clear-words .ensures) _ (c .before .before .before .before .before .before .before .before .before .before .before .before .before .before .before .before .before .before .before .before .before .before .before .before .before .before .before .before .before .before .before .raised .ensures) .size)
+same-length c =
+    let w = c .before .before .before .before .before in
+    let o = w .before .before .before .before .before .before .before in
+    let g = o .before .before .before .before .before .before .before .before .before .before .before .before .before .before .before in
+    let k = g .before .before .before .before .before in
+    let b = k .before .before in
+    let s = b .before .before .before .before .before .before .before .before in
+    w .wipe .kept .0 ∙ g .greedy .kept .0 ∙ front (asked s) (s .pre) _ (k .clear-words .ensures) _ (b .raised .ensures) .size
 
 same-length-2 : tie.Need-same-length-2
 same-length-2 c = search needs
@@ -106,7 +112,18 @@ same-length-4 : tie.Need-same-length-4
 same-length-4 c = search needs
 
 returns : tie.Need-returns
-returns c = done (asked (c .before .before .before .before .before .before .before .before .before .before .before .before .before .before .before .before .before .before .before .before .before .before .before .before .before .before .before .before .before .before .before .before .before .before .before .before .before .before .before)) (c .before .before .before .before .before .before .before .before .before .before .before .before .before .before .before .before .before .before .before .before .before .before .before .before .before .before .before .before .before .before .before .before .before .before .before .before .before .before .before .pre) _ (c .before .before .before .before .before .before .before .before .before .before .before .before .before .before .before .before .before .before .before .before .before .before .before .before .before .before .before .before .before .clear-words .ensures) _ (c .before .before .before .before .before .before .before .before .before .before .before .before .before .before .before .before .before .before .before .before .before .before .before .before .before .before .before .before .before .before .before .raised .ensures) _ _ _ _ _ (c .before .before .before .before .before .before .before .before .before .before .before .before .before .before .before .before .before .before .before .before .before .before .before .before .greedy .ensures) _ (c .before .before .before .before .before .before .before .before .before .before .before .before .before .before .before .before .before .before .before .least .ensures) _ _ (c .before .before .before .before .before .before .before .before .before .before .before .before .list-answers .ensures) _ _ (c .before .before .before .before .before .wipe .ensures) _ (c .found .ensures)
+returns c =
+    let w = c .before .before .before .before .before in
+    let t = w .before .before .before .before .before .before .before in
+    let o = t .before .before .before .before .before .before .before in
+    let l = o .before .before .before in
+    let g = l .before .before .before .before .before in
+    let k = g .before .before .before .before .before in
+    let b = k .before .before in
+    let s = b .before .before .before .before .before .before .before .before in
+    let listed = rw (o .before .before .work-at .ensures, o .before .work-end .ensures, o .work-dists-end .ensures) at (t .list-answers .ensures) in
+    done (asked s) (s .pre) _ (k .clear-words .ensures) _ (b .raised .ensures) _ _ (g .greedy .ensures) _ (l .least .ensures) _ listed _ (w .wipe .ensures)
+    _ (c .found .ensures)
 
 pub search-accepted-spec : {M : Type 1} → statement M
 search-accepted-spec =
@@ -119,9 +136,9 @@ search-accepted-spec =
     clear-words-requires
     greedy-requires
     least-requires
-    mul-w
-    add-we
-    add-fe
+    work-at-requires
+    work-end-requires
+    work-dists-end-requires
     mul-list-answers
     sub-list-answers
     part-list-answers-start

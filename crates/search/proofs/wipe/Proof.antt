@@ -1,17 +1,14 @@
--- `wipe`: the two fronts are the stated room.
-use borrow.Author.Needs.{needs}
+-- `wipe`. The two fronts that are cleared are the stated room.
 use Rattle.search.proofs.Copying.{wiped}
+use borrow.Author.Needs.{needs}
 use Rattle.search.proofs.wipe.Statement.{statement}
 use Rattle.search.proofs.wipe.Tie as tie
 
-mul-w : tie.Need-mul-w
-mul-w c = search needs
+work-end-requires : tie.Need-work-end-requires
+work-end-requires c κs = search needs
 
-add-w : tie.Need-add-w
-add-w c = search needs
-
-add-f : tie.Need-add-f
-add-f c = search needs
+work-dists-end-requires : tie.Need-work-dists-end-requires
+work-dists-end-requires c κs = search needs
 
 clear-front-requires : tie.Need-clear-front-requires
 clear-front-requires c κs = search needs
@@ -23,7 +20,18 @@ same-length-2 : tie.Need-same-length-2
 same-length-2 c = search needs
 
 returns : tie.Need-returns
-returns c = let s = c .before .before .before .before .before .before .before .before .before in wiped (s .args .n) (s .args .words .now) (s .args .floats .now) _ _ (c .before .before .before .before .clear-front .ensures)
+returns c =
+    let k = c .before .before .before .before in
+    let o = k .before .before .before in
+    wiped _ _ _ (rw (o .before .work-end .ensures, o .work-dists-end .ensures) at (k .clear-front .ensures))
 
 pub wipe-spec : {M : Type 1} → statement M
-wipe-spec = tie.close (tie.spec mul-w add-w add-f clear-front-requires same-length same-length-2 returns)
+wipe-spec =
+    tie.close
+    (tie.spec
+    work-end-requires
+    work-dists-end-requires
+    clear-front-requires
+    same-length
+    same-length-2
+    returns)

@@ -1,18 +1,9 @@
--- `answer_text`.
-use mathlib.Core.Path.{_≡_, refl, sym, ap, _∙_, subst}
-use mathlib.Core.Logic.{⊎-elim}
-use Prim.Native.Nat.{ℕ, suc, _+_, _-_, _*_, _≤_, _<_}
-use native.Mathlib.Omega.{arith}
-use lib.ListN.{length, getD, set, take, drop, length-set}
+-- `answer_text`: 13 for a text that is too long, and the answer of the values that it says for any other.
+use Prim.Native.Nat.{_-_}
 use borrow.Author.Needs.{needs}
 use Rattle.seek_answer.proofs.Texts.{text-long, text-read}
 use Rattle.seek_answer.proofs.answer_text.Statement.{statement}
 use Rattle.seek_answer.proofs.answer_text.Tie as tie
-use Rattle.seek_answer.proofs.answer_text.Reads as reads
-use Rattle.seek_answer.proofs.answer_text.Lts as lts
-use Rattle.seek_answer.proofs.answer_values.Reads as answer-values-reads
-use Rattle.seek_print.proofs.put_refused.Reads as put-refused-reads
-use Rattle.seek_text.proofs.read_values.Reads as read-values-reads
 
 put-refused-requires : tie.Need-put-refused-requires
 put-refused-requires c κs = search needs
@@ -21,7 +12,7 @@ same-length : tie.Need-same-length
 same-length c = search needs
 
 returns : tie.Need-returns
-returns c = text-long _ _ _ _ (c .before .before .before .before .if1 .taken) (c .before .before .put-refused .ensures)
+returns c = text-long _ (c .before .before .before .before .if1 .taken) (c .before .before .put-refused .ensures)
 
 read-values-requires : tie.Need-read-values-requires
 read-values-requires c κs = search needs
@@ -63,7 +54,10 @@ same-length-9 : tie.Need-same-length-9
 same-length-9 c = search needs
 
 returns-2 : tie.Need-returns-2
-returns-2 c = text-read _ _ _ _ _ _ (c .before .before .before .before .before .before .before .before .before .before .before .before .before .before .before .before .before .before .before .before .before .before .before .before .before .before .before .before .if1 .left) (c .before .before .before .before .before .before .before .before .before .before .before .before .before .before .before .before .before .before .before .before .before .before .before .before .before .before .read-values .ensures) (c .before .before .before .before .before .before .before .before .before .before .before .before .before .before .answer-values .ensures)
+returns-2 c =
+    let answered = c .before .before .before .before .before .before .before .before .before .before .before .before .before .before in
+    let read = answered .before .before .before .before .before .before .before .before .before .before .before .before in
+    text-read (read .before .before .if1 .left) (read .read-values .ensures) (answered .answer-values .ensures)
 
 pub answer-text-spec : {M : Type 1} → statement M
 answer-text-spec =

@@ -1,19 +1,12 @@
--- `answer_values`.
-use mathlib.Core.Path.{_≡_, refl, sym, ap, _∙_, subst}
-use mathlib.Core.Logic.{⊎-elim}
-use Prim.Native.Nat.{ℕ, suc, _+_, _-_, _*_, _≤_, _<_}
+-- `answer_values`: 13 for values that are not well formed, and the search for those that are.
+use mathlib.Core.Path.{sym, _∙_}
+use Prim.Native.Nat.{_-_}
 use native.Mathlib.Omega.{arith}
-use lib.ListN.{length, getD, set, take, drop, length-set}
 use borrow.Author.Needs.{needs}
-use Rattle.seek_answer.proofs.Texts.{values-bad, values-good, ready-of}
+use Rattle.seek_answer.proofs.Texts.{values-bad, values-good}
 use borrow.Author.Tests.{not-true, not-false}
 use Rattle.seek_answer.proofs.answer_values.Statement.{statement}
 use Rattle.seek_answer.proofs.answer_values.Tie as tie
-use Rattle.seek_answer.proofs.answer_values.Reads as reads
-use Rattle.seek_answer.proofs.answer_values.Lts as lts
-use Rattle.seek_answer.proofs.search_values.Reads as search-values-reads
-use Rattle.seek_print.proofs.put_refused.Reads as put-refused-reads
-use Rattle.seek_text.proofs.take_search.Reads as take-search-reads
 
 take-search-requires : tie.Need-take-search-requires
 take-search-requires c κs = search needs
@@ -31,13 +24,28 @@ same-length-3 : tie.Need-same-length-3
 same-length-3 c = search needs
 
 returns : tie.Need-returns
-returns c = values-bad _ _ _ _ _ _ _ (c .before .before .before .before .before .before .before .before .before .take-search .ensures) (not-true _ (c .before .before .before .before .if1 .taken)) (c .before .before .put-refused .ensures)
+returns c =
+    let refused = c .before .before .before .before in
+    let taken = refused .before .before .before .before .before in
+    values-bad (taken .take-search .ensures) (not-true _ (refused .if1 .taken)) (c .before .before .put-refused .ensures)
 
 search-values-requires : tie.Need-search-values-requires
-search-values-requires c κs = let r = c .before .before .before .before .before .before .before .before .before .before .before .before .before .before .before .before .before .before .before .before .before .before .before .pre in (
-  ready-of _ _ _ _ (c .before .before .before .before .before .before .before .before .before .before .before .before .take-search .ensures) (not-false _ (c .before .before .before .before .before .before .before .if1 .left)),
-  record { vectors-room = omega (arith, r .vectors-room, c .before .before .before .before .before .before .before .before .before .before .before .before .take-search .kept .1 .0); query-room = omega (arith, r .query-room, c .before .before .before .before .before .before .before .before .before .before .before .before .take-search .kept .1 .1 .0); words-room = r .words-room; floats-room = r .floats-room; ids-room = r .ids-room; dists-room = r .dists-room; out-room = r .out-room },
-)
+search-values-requires c κs =
+    let well = c .before .before .before .before .before .before .before in
+    let taken = well .before .before .before .before .before in
+    let k = taken .take-search .kept in
+    let r = taken .before .before .before .before .before .before .before .before .before .before .before .pre in (
+      taken .take-search .ensures .ready (not-false _ (well .if1 .left)),
+      record {
+        vectors-room = omega (arith, r .vectors-room, k .1 .0);
+        query-room = omega (arith, r .query-room, k .1 .1 .0);
+        words-room = r .words-room;
+        floats-room = r .floats-room;
+        ids-room = r .ids-room;
+        dists-room = r .dists-room;
+        out-room = r .out-room;
+      },
+    )
 
 same-length-4 : tie.Need-same-length-4
 same-length-4 c = search needs
@@ -61,7 +69,11 @@ same-length-10 : tie.Need-same-length-10
 same-length-10 c = search needs
 
 returns-2 : tie.Need-returns-2
-returns-2 c = values-good _ _ _ _ (sym (c .before .before .before .before .before .before .before .before .before .before .before .before .before .before .before .before .before .before .before .before .before .before .before .take-search .ensures .says) ∙ not-false _ (c .before .before .before .before .before .before .before .before .before .before .before .before .before .before .before .before .before .before .if1 .left)) (c .before .before .before .before .before .before .before .before .before .before .search-values .ensures)
+returns-2 c =
+    let searched = c .before .before .before .before .before .before .before .before .before .before in
+    let well = searched .before .before .before .before .before .before .before .before in
+    let taken = well .before .before .before .before .before in
+    values-good _ (sym (taken .take-search .ensures .says) ∙ not-false _ (well .if1 .left)) (searched .search-values .ensures)
 
 pub answer-values-spec : {M : Type 1} → statement M
 answer-values-spec =

@@ -1,27 +1,38 @@
--- `search_values`.
-use mathlib.Core.Path.{_≡_, refl, sym, ap, _∙_, subst}
-use mathlib.Core.Logic.{⊎-elim}
-use Prim.Native.Nat.{ℕ, suc, _+_, _-_, _*_, _≤_, _<_}
+-- `search_values`: the search that the values ask for is made, and what it left is printed.
+use mathlib.Core.Path.{_≡_}
+use Prim.Native.Nat.{_-_}
 use native.Mathlib.Omega.{arith}
-use lib.ListN.{length, getD, set, take, drop, length-set}
+use lib.ListN.{length}
 use borrow.Author.Needs.{needs}
-use Rattle.seek_answer.proofs.Calls.{search-refused, search-wholes, search-few, search-found}
-use lib.Ieee.{Float}
+use Rattle.definition.specs.Outcome.{SearchOut}
+use Rattle.seek_print.specs.Printed.{put-same}
+use Rattle.seek_answer.proofs.Calls.{Told, search-tells}
 use Rattle.seek_answer.proofs.search_values.Statement.{statement}
 use Rattle.seek_answer.proofs.search_values.Tie as tie
-use Rattle.seek_answer.proofs.search_values.Reads as reads
-use Rattle.seek_answer.proofs.search_values.Lts as lts
-use Rattle.search.proofs.search.Reads as search-reads
-use Rattle.seek_print.proofs.put_found.Reads as put-found-reads
-use Rattle.seek_print.proofs.put_refused.Reads as put-refused-reads
-use Rattle.seek_text.proofs.find_places.Reads as find-places-reads
-use Rattle.seek_text.proofs.the_degree.Reads as the-degree-reads
-use Rattle.seek_text.proofs.the_dim.Reads as the-dim-reads
-use Rattle.seek_text.proofs.the_n.Reads as the-n-reads
-use Rattle.seek_text.proofs.wide.Reads as wide-reads
 
-dists-few : (c : tie.Start) → 256 ≤ length (c .args .dists .now)
-dists-few c = omega (arith, c .pre .1 .ids-room, c .pre .1 .dists-room)
+-- back from the search to the places, and from there to the entry
+abbrev placed : tie.After-search → tie.After-find-places
+placed c = c .before .before .before .before .before .before .before .before .before .before .before .before .before
+
+abbrev entry : tie.After-search → tie.Start
+entry c = placed c .before .before .before .before .before .before .before .before .before .before .before .before
+
+-- what the search left, and what it tells
+abbrev left : tie.After-search → SearchOut
+left c =
+    let l = c .search .last .1 .1 .1 .1 .1 .1 .1 .1 .1 in
+    record { answer = c .search .result; words = l .0; floats = l .1 .0; ids = l .1 .1 .0; dists = l .1 .1 .1 .0 }
+
+told : (c : tie.After-search) → Told (entry c .args .vals .now) (entry c .args .ids .now) (left c)
+told c =
+    let p = placed c in
+    let read = c .before .before .before .before .before .before .before .before in
+    search-tells (entry c .pre .0) (entry c .pre .1) (p .before .before .before .the-n .ensures) (p .before .before .the-dim .ensures)
+    (p .before .the-degree .ensures) (read .before .before .index-of .ensures) (read .index-of2 .ensures) (p .find-places .ensures) {o = left c} (c .search .ensures)
+
+-- ids and distances are as many after the search
+ids-kept : (c : tie.After-search) → length (left c .ids) ≡ length (entry c .args .ids .now)
+ids-kept c = c .search .kept .1 .1 .1 .1 .1 .1 .1 .1 .1 .1 .1 .0
 
 the-n-requires : tie.Need-the-n-requires
 the-n-requires c κs = search needs
@@ -41,17 +52,17 @@ sub-v c = search needs
 shared-slice-read-start : tie.Need-shared-slice-read-start
 shared-slice-read-start c = search needs
 
-shared-slice-read-wide : tie.Need-shared-slice-read-wide
-shared-slice-read-wide c = search needs
+shared-slice-read-index-of : tie.Need-shared-slice-read-index-of
+shared-slice-read-index-of c = search needs
 
-wide-requires : tie.Need-wide-requires
-wide-requires c κs = search needs
+index-of-requires : tie.Need-index-of-requires
+index-of-requires c κs = search needs
 
-shared-slice-read-wide-2 : tie.Need-shared-slice-read-wide-2
-shared-slice-read-wide-2 c = search needs
+shared-slice-read-index-of-2 : tie.Need-shared-slice-read-index-of-2
+shared-slice-read-index-of-2 c = search needs
 
-wide-requires-2 : tie.Need-wide-requires-2
-wide-requires-2 c κs = search needs
+index-of-requires-2 : tie.Need-index-of-requires-2
+index-of-requires-2 c κs = search needs
 
 sub-search : tie.Need-sub-search
 sub-search c = search needs
@@ -87,7 +98,9 @@ search-requires : tie.Need-search-requires
 search-requires c κs = search needs
 
 put-refused-requires : tie.Need-put-refused-requires
-put-refused-requires c κs = omega (arith, c .before .before .before .before .before .before .before .before .before .before .before .before .before .before .before .before .before .before .before .before .before .before .before .before .before .before .before .before .before .before .before .before .before .before .before .pre .1 .out-room)
+put-refused-requires c κs =
+    let searched = c .before .before .before .before .before .before .before .before .before .before in
+    omega (arith, entry searched .pre .1 .out-room)
 
 same-length : tie.Need-same-length
 same-length c = search needs
@@ -105,11 +118,20 @@ same-length-5 : tie.Need-same-length-5
 same-length-5 c = search needs
 
 returns : tie.Need-returns
-returns c = search-refused _ _ _ _ _ _ _ (c .before .before .before .before .before .before .before .before .before .before .before .before .before .before .before .before .before .before .before .before .before .before .before .before .before .before .before .before .before .before .before .before .before .before .before .before .before .before .pre .0) _ _ _ _ _ _ _ _ (c .before .before .before .before .before .before .before .before .before .before .before .before .before .before .before .before .before .before .before .before .before .before .before .before .before .before .before .before .before .the-n .ensures) (c .before .before .before .before .before .before .before .before .before .before .before .before .before .before .before .before .before .before .before .before .before .before .before .before .before .before .before .before .the-dim .ensures) (c .before .before .before .before .before .before .before .before .before .before .before .before .before .before .before .before .before .before .before .before .before .before .before .before .before .before .before .the-degree .ensures) (c .before .before .before .before .before .before .before .before .before .before .before .before .before .before .before .before .before .before .before .before .before .before .before .wide .ensures) (c .before .before .before .before .before .before .before .before .before .before .before .before .before .before .before .before .before .before .before .before .before .wide2 .ensures) (c .before .before .before .before .before .before .before .before .before .before .before .before .before .before .before .before .before .before .before .before .before .before .before .before .before .before .find-places .ensures) _ (c .before .before .before .before .before .before .before .before .before .before .before .before .before .before .before .before .before .before .before .before .before .before .before .before .before .before .before .before .before .before .before .before .before .before .before .before .before .before .pre .1 .words-room) (c .before .before .before .before .before .before .before .before .before .before .before .before .before .before .before .before .before .before .before .before .before .before .before .before .before .before .before .before .before .before .before .before .before .before .before .before .before .before .pre .1 .floats-room) (c .before .before .before .before .before .before .before .before .before .before .before .before .before .before .before .before .before .before .before .before .before .before .before .before .before .before .before .before .before .before .before .before .before .before .before .before .before .before .pre .1 .ids-room) (dists-few (c .before .before .before .before .before .before .before .before .before .before .before .before .before .before .before .before .before .before .before .before .before .before .before .before .before .before .before .before .before .before .before .before .before .before .before .before .before .before)) (c .before .before .before .before .before .before .before .before .before .before .before .before .before .search .ensures) _ _ _ (c .before .before .before .before .if1 .taken) (c .before .before .put-refused .ensures)
+returns c =
+    let searched = c .before .before .before .before .before .before .before .before .before .before .before .before .before in
+    put-same (told searched .refused (c .before .before .before .before .if1 .taken)) (c .before .before .put-refused .ensures)
 
 put-found-requires : tie.Need-put-found-requires
-put-found-requires c κs = let few = search-few _ _ _ _ _ _ _ (c .before .before .before .before .before .before .before .before .before .before .before .before .before .before .before .before .before .before .before .before .before .before .before .before .before .before .before .before .before .before .before .before .before .before .before .before .before .pre .0) _ _ _ _ _ _ _ _ (c .before .before .before .before .before .before .before .before .before .before .before .before .before .before .before .before .before .before .before .before .before .before .before .before .before .before .before .before .the-n .ensures) (c .before .before .before .before .before .before .before .before .before .before .before .before .before .before .before .before .before .before .before .before .before .before .before .before .before .before .before .the-dim .ensures) (c .before .before .before .before .before .before .before .before .before .before .before .before .before .before .before .before .before .before .before .before .before .before .before .before .before .before .the-degree .ensures) (c .before .before .before .before .before .before .before .before .before .before .before .before .before .before .before .before .before .before .before .before .before .before .wide .ensures) (c .before .before .before .before .before .before .before .before .before .before .before .before .before .before .before .before .before .before .before .before .wide2 .ensures) (c .before .before .before .before .before .before .before .before .before .before .before .before .before .before .before .before .before .before .before .before .before .before .before .before .before .find-places .ensures) _ (c .before .before .before .before .before .before .before .before .before .before .before .before .before .before .before .before .before .before .before .before .before .before .before .before .before .before .before .before .before .before .before .before .before .before .before .before .before .pre .1 .words-room) (c .before .before .before .before .before .before .before .before .before .before .before .before .before .before .before .before .before .before .before .before .before .before .before .before .before .before .before .before .before .before .before .before .before .before .before .before .before .pre .1 .floats-room) (c .before .before .before .before .before .before .before .before .before .before .before .before .before .before .before .before .before .before .before .before .before .before .before .before .before .before .before .before .before .before .before .before .before .before .before .before .before .pre .1 .ids-room) (dists-few (c .before .before .before .before .before .before .before .before .before .before .before .before .before .before .before .before .before .before .before .before .before .before .before .before .before .before .before .before .before .before .before .before .before .before .before .before .before)) (c .before .before .before .before .before .before .before .before .before .before .before .before .search .ensures) (c .before .before .before .if1 .left) (c .before .before .before .before .before .before .before .before .before .before .before .before .search .kept .1 .1 .1 .1 .1 .1 .1 .1 .1 .1 .1 .0) in
-    ((omega (arith, few, c .before .before .before .before .before .before .before .before .before .before .before .before .search .kept .1 .1 .1 .1 .1 .1 .1 .1 .1 .1 .1 .0), omega (arith, few, c .before .before .before .before .before .before .before .before .before .before .before .before .search .kept .1 .1 .1 .1 .1 .1 .1 .1 .1 .1 .1 .1 .0, c .before .before .before .before .before .before .before .before .before .before .before .before .before .before .before .before .before .before .before .before .before .before .before .before .before .before .before .before .before .before .before .before .before .before .before .before .before .pre .1 .dists-room), omega (arith, few, c .before .before .before .before .before .before .before .before .before .before .before .before .before .before .before .before .before .before .before .before .before .before .before .before .before .before .before .before .before .before .before .before .before .before .before .before .before .pre .1 .out-room)), search-wholes _ _ _ _ _ _ _ (c .before .before .before .before .before .before .before .before .before .before .before .before .before .before .before .before .before .before .before .before .before .before .before .before .before .before .before .before .before .before .before .before .before .before .before .before .before .pre .0) _ _ _ _ _ _ _ _ (c .before .before .before .before .before .before .before .before .before .before .before .before .before .before .before .before .before .before .before .before .before .before .before .before .before .before .before .before .the-n .ensures) (c .before .before .before .before .before .before .before .before .before .before .before .before .before .before .before .before .before .before .before .before .before .before .before .before .before .before .before .the-dim .ensures) (c .before .before .before .before .before .before .before .before .before .before .before .before .before .before .before .before .before .before .before .before .before .before .before .before .before .before .the-degree .ensures) (c .before .before .before .before .before .before .before .before .before .before .before .before .before .before .before .before .before .before .before .before .before .before .wide .ensures) (c .before .before .before .before .before .before .before .before .before .before .before .before .before .before .before .before .before .before .before .before .wide2 .ensures) (c .before .before .before .before .before .before .before .before .before .before .before .before .before .before .before .before .before .before .before .before .before .before .before .before .before .find-places .ensures) _ (c .before .before .before .before .before .before .before .before .before .before .before .before .before .before .before .before .before .before .before .before .before .before .before .before .before .before .before .before .before .before .before .before .before .before .before .before .before .pre .1 .words-room) (c .before .before .before .before .before .before .before .before .before .before .before .before .before .before .before .before .before .before .before .before .before .before .before .before .before .before .before .before .before .before .before .before .before .before .before .before .before .pre .1 .floats-room) (c .before .before .before .before .before .before .before .before .before .before .before .before .before .before .before .before .before .before .before .before .before .before .before .before .before .before .before .before .before .before .before .before .before .before .before .before .before .pre .1 .ids-room) (dists-few (c .before .before .before .before .before .before .before .before .before .before .before .before .before .before .before .before .before .before .before .before .before .before .before .before .before .before .before .before .before .before .before .before .before .before .before .before .before)) (c .before .before .before .before .before .before .before .before .before .before .before .before .search .ensures) (c .before .before .before .if1 .left))
+put-found-requires c κs =
+    let zero = c .before .before .before in
+    let searched = zero .before .before .before .before .before .before .before .before .before in
+    let room = entry searched .pre .1 in
+    let few = told searched .few (zero .if1 .left) (ids-kept searched) in
+    let dists = searched .search .kept .1 .1 .1 .1 .1 .1 .1 .1 .1 .1 .1 .1 .0 in (
+      (omega (arith, few, ids-kept searched), omega (arith, few, dists, room .dists-room), omega (arith, few, room .out-room)),
+      told searched .whole (zero .if1 .left),
+    )
 
 same-length-6 : tie.Need-same-length-6
 same-length-6 c = search needs
@@ -127,7 +149,10 @@ same-length-10 : tie.Need-same-length-10
 same-length-10 c = search needs
 
 returns-2 : tie.Need-returns-2
-returns-2 c = search-found _ _ _ _ _ _ _ (c .before .before .before .before .before .before .before .before .before .before .before .before .before .before .before .before .before .before .before .before .before .before .before .before .before .before .before .before .before .before .before .before .before .before .before .before .before .before .before .before .pre .0) _ _ _ _ _ _ _ _ (c .before .before .before .before .before .before .before .before .before .before .before .before .before .before .before .before .before .before .before .before .before .before .before .before .before .before .before .before .before .before .before .the-n .ensures) (c .before .before .before .before .before .before .before .before .before .before .before .before .before .before .before .before .before .before .before .before .before .before .before .before .before .before .before .before .before .before .the-dim .ensures) (c .before .before .before .before .before .before .before .before .before .before .before .before .before .before .before .before .before .before .before .before .before .before .before .before .before .before .before .before .before .the-degree .ensures) (c .before .before .before .before .before .before .before .before .before .before .before .before .before .before .before .before .before .before .before .before .before .before .before .before .before .wide .ensures) (c .before .before .before .before .before .before .before .before .before .before .before .before .before .before .before .before .before .before .before .before .before .before .before .wide2 .ensures) (c .before .before .before .before .before .before .before .before .before .before .before .before .before .before .before .before .before .before .before .before .before .before .before .before .before .before .before .before .find-places .ensures) _ (c .before .before .before .before .before .before .before .before .before .before .before .before .before .before .before .before .before .before .before .before .before .before .before .before .before .before .before .before .before .before .before .before .before .before .before .before .before .before .before .before .pre .1 .words-room) (c .before .before .before .before .before .before .before .before .before .before .before .before .before .before .before .before .before .before .before .before .before .before .before .before .before .before .before .before .before .before .before .before .before .before .before .before .before .before .before .before .pre .1 .floats-room) (c .before .before .before .before .before .before .before .before .before .before .before .before .before .before .before .before .before .before .before .before .before .before .before .before .before .before .before .before .before .before .before .before .before .before .before .before .before .before .before .before .pre .1 .ids-room) (dists-few (c .before .before .before .before .before .before .before .before .before .before .before .before .before .before .before .before .before .before .before .before .before .before .before .before .before .before .before .before .before .before .before .before .before .before .before .before .before .before .before .before)) (c .before .before .before .before .before .before .before .before .before .before .before .before .before .before .before .search .ensures) (c .before .before .before .before .before .before .if1 .left) _ _ _ (c .before .before .put-found .ensures)
+returns-2 c =
+    let zero = c .before .before .before .before .before .before in
+    let searched = zero .before .before .before .before .before .before .before .before .before in
+    put-same (told searched .text (zero .if1 .left)) (c .before .before .put-found .ensures)
 
 pub search-values-spec : {M : Type 1} → statement M
 search-values-spec =
@@ -139,10 +164,10 @@ search-values-spec =
     find-places-requires
     sub-v
     shared-slice-read-start
-    shared-slice-read-wide
-    wide-requires
-    shared-slice-read-wide-2
-    wide-requires-2
+    shared-slice-read-index-of
+    index-of-requires
+    shared-slice-read-index-of-2
+    index-of-requires-2
     sub-search
     part-search-start
     part-search-end

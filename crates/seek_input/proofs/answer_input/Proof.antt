@@ -1,15 +1,8 @@
 -- `answer_input`: the buffer holds more than the longest text.
-use Prim.Native.Nat.{ℕ, _<_}
-use native.Mathlib.Omega.{arith}
 use borrow.Author.Needs.{needs}
-use lib.ListN.{length}
 use Rattle.definition.specs.Seek.{mostInput}
 use Rattle.seek_input.proofs.answer_input.Statement.{statement}
 use Rattle.seek_input.proofs.answer_input.Tie as tie
-use Rattle.seek_input.proofs.answer_input.Reads as reads
-use Rattle.seek_input.proofs.answer_input.Lts as lts
-use Rattle.seek_input.proofs.print_answer.Reads as print-answer-reads
-use Rattle.seek_input.proofs.read_text.Reads as read-text-reads
 
 slice-aggregate-read-text : tie.Need-slice-aggregate-read-text
 slice-aggregate-read-text c = search needs

@@ -4,10 +4,6 @@ use Rattle.seek_print.specs.Printed.{put-fits, put-length}
 use Rattle.seek_input.specs.Streams.{put-handed}
 use Rattle.seek_input.proofs.print_answer.Statement.{statement}
 use Rattle.seek_input.proofs.print_answer.Tie as tie
-use Rattle.seek_input.proofs.print_answer.Reads as reads
-use Rattle.seek_input.proofs.print_answer.Lts as lts
-use Rattle.seek_answer.proofs.answer_text.Reads as answer-text-reads
-use Rattle.seek_input.proofs.write_answer.Reads as write-answer-reads
 
 sub-answer-text : tie.Need-sub-answer-text
 sub-answer-text c = search needs
@@ -49,10 +45,15 @@ array-share-prefix-out : tie.Need-array-share-prefix-out
 array-share-prefix-out c = put-fits _ _ _ _ (c .before .before .before .before .before .before .before .before .answer-text .ensures)
 
 slice-aggregate-write-answer : tie.Need-slice-aggregate-write-answer
-slice-aggregate-write-answer c = put-length _ _ _ _ (c .before .before .before .before .before .before .before .before .before .answer-text .ensures)
+slice-aggregate-write-answer c =
+    let answered = c .before .before .before .before .before .before .before .before .before in
+    put-length _ _ _ _ (answered .answer-text .ensures)
 
 write-answer-requires : tie.Need-write-answer-requires
-write-answer-requires c κs = put-handed (c .before .before .before .before .before .before .before .before .before .before .before .before .before .before .before .before .before .before .before .before .args .text .now) _ _ (c .before .before .before .before .before .before .before .before .before .before .before .before .before .before .before .before .before .before .before .before .args .count) _ (c .before .before .before .before .before .before .before .before .before .answer-text .ensures)
+write-answer-requires c κs =
+    let answered = c .before .before .before .before .before .before .before .before .before in
+    let s = answered .before .before .before .before .before .before .before .before .before .before .before in
+    put-handed (s .args .text .now) (s .args .count) (answered .answer-text .ensures)
 
 returns : tie.Need-returns
 returns c = search needs

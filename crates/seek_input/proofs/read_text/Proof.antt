@@ -1,16 +1,9 @@
--- `read_text`.
-use mathlib.Core.Path.{_≡_, sym, subst}
-use Prim.Native.Nat.{ℕ, _<_}
+-- `read_text`: what was read, and that nothing of a text that is not too long is left.
 use native.Mathlib.Omega.{arith}
 use borrow.Author.Needs.{needs}
-use lib.ListN.{length}
-use Rattle.definition.specs.Seek.{mostInput}
 use Rattle.seek_input.specs.Streams.{text-read}
 use Rattle.seek_input.proofs.read_text.Statement.{statement}
 use Rattle.seek_input.proofs.read_text.Tie as tie
-use Rattle.seek_input.proofs.read_text.Reads as reads
-use Rattle.seek_input.proofs.read_text.Lts as lts
-use Rattle.io.proofs.read_full.Reads as read-full-reads
 
 read-full-requires : tie.Need-read-full-requires
 read-full-requires c κs = search needs

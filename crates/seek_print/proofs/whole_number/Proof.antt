@@ -1,15 +1,9 @@
--- `whole_number`.
-use mathlib.Core.Path.{_≡_, refl, sym, ap, _∙_, subst}
-use mathlib.Core.Logic.{⊎-elim}
-use Prim.Native.Nat.{ℕ, suc, _+_, _-_, _*_, _≤_, _<_}
-use native.Mathlib.Omega.{arith}
-use lib.ListN.{length, getD, set, take, drop, length-set}
+-- `whole_number`: a distance that is whole is cast back without loss.
+use Prim.Native.Nat.{_-_}
 use borrow.Author.Needs.{needs}
 use Rattle.whole.specs.Whole.{count-in-unsigned}
 use Rattle.seek_print.proofs.whole_number.Statement.{statement}
 use Rattle.seek_print.proofs.whole_number.Tie as tie
-use Rattle.seek_print.proofs.whole_number.Reads as reads
-use Rattle.seek_print.proofs.whole_number.Lts as lts
 
 float-to-int-result : tie.Need-float-to-int-result
 float-to-int-result c = count-in-unsigned _ (c .before .pre)

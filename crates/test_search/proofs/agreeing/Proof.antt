@@ -1,15 +1,9 @@
--- `agreeing`.
-use mathlib.Core.Path.{_≡_, refl, sym, ap, _∙_, subst}
-use mathlib.Core.Logic.{⊎-elim}
-use Prim.Native.Nat.{ℕ, suc, _+_, _-_, _*_, _≤_, _<_}
+-- `agreeing` is safe and ends: `end` is within the distances and the stated ones.
+use Prim.Native.Nat.{_-_}
 use native.Mathlib.Omega.{arith}
-use lib.ListN.{length, getD, set, take, drop, length-set}
 use borrow.Author.Needs.{needs}
 use Rattle.test_search.proofs.agreeing.Statement.{statement}
 use Rattle.test_search.proofs.agreeing.Tie as tie
-use Rattle.test_search.proofs.agreeing.Reads as reads
-use Rattle.test_search.proofs.agreeing.Lts as lts
-use Rattle.test_search.proofs.least.Reads as least-reads
 
 abbrev Inv-loop : tie.InvT-loop
 Inv-loop dists count stated end i₀ i = Unit {0}

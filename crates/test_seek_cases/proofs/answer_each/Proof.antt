@@ -1,16 +1,10 @@
--- `answer_each`.
-use mathlib.Core.Path.{_≡_, refl, sym, ap, _∙_, subst}
-use mathlib.Core.Logic.{⊎-elim}
-use Prim.Native.Nat.{ℕ, suc, _+_, _-_, _*_, _≤_, _<_}
+-- `answer_each` is safe and ends: each text ends no earlier than it begins, and the next begins after it.
+use Prim.Native.Nat.{_-_}
 use native.Mathlib.Omega.{arith}
-use lib.ListN.{length, getD, set, take, drop, length-set}
+use lib.ListN.{length}
 use borrow.Author.Needs.{needs}
 use Rattle.test_seek_cases.proofs.answer_each.Statement.{statement}
 use Rattle.test_seek_cases.proofs.answer_each.Tie as tie
-use Rattle.test_seek_cases.proofs.answer_each.Reads as reads
-use Rattle.test_seek_cases.proofs.answer_each.Lts as lts
-use Rattle.seek_input.proofs.print_answer.Reads as print-answer-reads
-use Rattle.test_seek_cases.proofs.text_end.Reads as text-end-reads
 
 abbrev Inv-loop : tie.InvT-loop
 Inv-loop texts at₀ at = Unit {0}

@@ -1,14 +1,10 @@
--- `text_end`.
-use mathlib.Core.Path.{_≡_, refl, sym, ap, _∙_, subst}
-use mathlib.Core.Logic.{⊎-elim}
-use Prim.Native.Nat.{ℕ, suc, _+_, _-_, _*_, _≤_, _<_}
+-- `text_end` is safe and ends, from `at` on and within the texts.
+use Prim.Native.Nat.{_-_, _≤_}
 use native.Mathlib.Omega.{arith}
-use lib.ListN.{length, getD, set, take, drop, length-set}
+use lib.ListN.{length}
 use borrow.Author.Needs.{needs}
 use Rattle.test_seek_cases.proofs.text_end.Statement.{statement}
 use Rattle.test_seek_cases.proofs.text_end.Tie as tie
-use Rattle.test_seek_cases.proofs.text_end.Reads as reads
-use Rattle.test_seek_cases.proofs.text_end.Lts as lts
 
 abbrev Inv-loop : tie.InvT-loop
 Inv-loop texts at end₀ end = (at ≤ end) × (end ≤ length texts)

@@ -15,14 +15,14 @@ abbrev μ-loop : tie.MeasureT-loop
 loop-holds : tie.Need-loop-holds Inv-loop μ-loop
 loop-holds c = omega arith
 
-mul-whole : tie.Need-mul-whole Inv-loop μ-loop
-mul-whole c = search needs
+mul-float-word : tie.Need-mul-float-word Inv-loop μ-loop
+mul-float-word c = search needs
 
-shared-slice-read-whole : tie.Need-shared-slice-read-whole Inv-loop μ-loop
-shared-slice-read-whole c = search needs
+shared-slice-read-float-word : tie.Need-shared-slice-read-float-word Inv-loop μ-loop
+shared-slice-read-float-word c = search needs
 
-whole-requires : tie.Need-whole-requires Inv-loop μ-loop
-whole-requires c κs = search needs
+float-word-requires : tie.Need-float-word-requires Inv-loop μ-loop
+float-word-requires c κs = search needs
 
 mixed-requires : tie.Need-mixed-requires Inv-loop μ-loop
 mixed-requires c κs = search needs
@@ -46,9 +46,9 @@ floats-sum-spec =
     Inv-loop
     μ-loop
     loop-holds
-    mul-whole
-    shared-slice-read-whole
-    whole-requires
+    mul-float-word
+    shared-slice-read-float-word
+    float-word-requires
     mixed-requires
     add-i
     loop-less

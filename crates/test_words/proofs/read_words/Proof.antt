@@ -8,13 +8,22 @@ use Rattle.test_words.proofs.read_words.Statement.{statement}
 use Rattle.test_words.proofs.read_words.Tie as tie
 
 abbrev Inv-loop : tie.InvT-loop
-Inv-loop text words₀ at₀ value₀ i₀ words at value i = (i ≤ length text) × (length words ≡ length words₀)
+Inv-loop text words₀ part₀ at₀ value₀ i₀ words part at value i = (i ≤ length text) × (length words ≡ length words₀)
 
 abbrev μ-loop : tie.MeasureT-loop
-μ-loop text words₀ at₀ value₀ i₀ words at value i = length text - i
+μ-loop text words₀ part₀ at₀ value₀ i₀ words part at value i = length text - i
 
 loop-holds : tie.Need-loop-holds Inv-loop μ-loop
 loop-holds c = (omega arith, refl)
+
+shared-slice-read-next-part : tie.Need-shared-slice-read-next-part Inv-loop μ-loop
+shared-slice-read-next-part c = search needs
+
+next-part-requires : tie.Need-next-part-requires Inv-loop μ-loop
+next-part-requires c κs = search needs
+
+next-place-requires : tie.Need-next-place-requires Inv-loop μ-loop
+next-place-requires c κs = search needs
 
 shared-slice-read-next-value : tie.Need-shared-slice-read-next-value Inv-loop μ-loop
 shared-slice-read-next-value c = search needs
@@ -22,14 +31,8 @@ shared-slice-read-next-value c = search needs
 next-value-requires : tie.Need-next-value-requires Inv-loop μ-loop
 next-value-requires c κs = search needs
 
-shared-slice-read-next-place : tie.Need-shared-slice-read-next-place Inv-loop μ-loop
-shared-slice-read-next-place c = search needs
-
-next-place-requires : tie.Need-next-place-requires Inv-loop μ-loop
-next-place-requires c κs = search needs
-
-put-requires : tie.Need-put-requires Inv-loop μ-loop
-put-requires c κs = search needs
+put-word-requires : tie.Need-put-word-requires Inv-loop μ-loop
+put-word-requires c κs = search needs
 
 add-i : tie.Need-add-i Inv-loop μ-loop
 add-i c = search needs
@@ -53,11 +56,12 @@ read-words-spec =
     Inv-loop
     μ-loop
     loop-holds
+    shared-slice-read-next-part
+    next-part-requires
+    next-place-requires
     shared-slice-read-next-value
     next-value-requires
-    shared-slice-read-next-place
-    next-place-requires
-    put-requires
+    put-word-requires
     add-i
     loop-less
     loop-again

@@ -5,7 +5,7 @@ use native.Mathlib.Omega.{arith}
 use borrow.Author.Needs.{needs}
 use Rattle.definition.specs.Refusals.{badVectors}
 use native.Mathlib.Nat.{mul-le-mul}
-use Rattle.checks.specs.Good.{count-good}
+use Rattle.accepted.specs.Checks.{count-good}
 use Rattle.checks.proofs.limits.bad_vectors.Statement.{statement}
 use Rattle.checks.proofs.limits.bad_vectors.Tie as tie
 

@@ -1,8 +1,10 @@
 -- `bad_wide_length` meets its contract.
-use mathlib.Core.Path.{sym, ap, _∙_, subst}
-use Prim.Native.Nat.{ℕ, _-_, _≤_}
+use mathlib.Core.Path.{ap, _∙_}
+use Prim.Native.Nat.{ℕ}
+use native.Mathlib.Omega.{arith}
 use borrow.Author.Needs.{needs}
-use Rattle.checks.specs.Lengths.{wrongLength, slack-few}
+use Rattle.laws.specs.Tables.{slack-few}
+use Rattle.checks.specs.Lengths.{wrongLength}
 use Rattle.checks.proofs.limits.bad_wide_length.Statement.{statement}
 use Rattle.checks.proofs.limits.bad_wide_length.Tie as tie
 
@@ -10,7 +12,7 @@ slack-requires : tie.Need-slack-requires
 slack-requires c κs = search needs
 
 bad-length-requires : tie.Need-bad-length-requires
-bad-length-requires c κs = (c .before .pre .0, subst (λ (w : ℕ). w ≤ 128) (sym (c .slack .ensures)) (slack-few _ (c .before .pre .1)))
+bad-length-requires c κs = let s = c .before in (s .pre .0, omega (arith, slack-few (s .args .degree) (s .pre .1)))
 
 returns : tie.Need-returns
 returns c =

@@ -6,7 +6,7 @@ use Prim.Native.Nat.{ℕ, _-_}
 use native.Mathlib.Omega.{arith}
 use lib.ListN.{length}
 use borrow.Author.Needs.{needs}
-use Rattle.checks.specs.Looked.{Looked, look-start, look-bad, look-good, look-none}
+use Rattle.laws.specs.Looked.{Looked, look-start, look-bad, look-good, look-none}
 use borrow.Author.Tests.{lt-ltb, le-ltb}
 use lib.Dec.{ltb}
 use Rattle.checks.specs.Below.{allBelow}

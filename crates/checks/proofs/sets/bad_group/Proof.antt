@@ -37,7 +37,8 @@ returns c =
 returns-2 : tie.Need-returns-2 Inv-loop μ-loop
 returns-2 c =
     let s = c .before .before .before .before in let t = s .before .before in let a = t .args in
-    seed-start (a .n) (a .start) (a .group .now) (s .loop .i) (s .loop .inv .1) (c .before .before .before .loop-test .taken) (c .before .if1 .left) (c .if2 .taken)
+    seed-start (a .n) (a .start) (a .group .now) (s .loop .i) (s .loop .inv .1)
+    (c .before .before .before .loop-test .taken) (c .before .if1 .left) (c .if2 .taken)
 
 add-next : tie.Need-add-next Inv-loop μ-loop
 add-next c = search needs
@@ -72,7 +73,8 @@ loop-again c =
     let s = c .before .before .before .before .before .before .before in let t = s .before .before in let a = t .args in (
       omega arith,
       seed-good (a .n) (a .start) (a .group .now) (s .loop .i) (s .loop .inv .1)
-          (c .before .before .before .before .before .before .loop-test .taken) (c .before .before .before .before .if1 .left) (c .before .before .before .if2 .left)
+          (c .before .before .before .before .before .before .loop-test .taken)
+          (c .before .before .before .before .if1 .left) (c .before .before .before .if2 .left)
           (ap (isIn _) (sym (rest-is (s .loop .i + 1) (a .group .now) (omega arith))) ∙ sym (c .before .is-among .ensures) ∙ c .if3 .left),
     )
 

@@ -4,8 +4,7 @@ use Prim.Native.Nat.{_-_}
 use borrow.Author.Needs.{needs}
 use Rattle.definition.specs.Refusals.{badNodes}
 use Rattle.checks.specs.Below.{allBelow, below-small}
-use Rattle.checks.specs.Bools.{not-true, not-false}
-use borrow.Author.Tests.{lt-ltb, le-ltb}
+use borrow.Author.Tests.{lt-ltb, le-ltb, not-true, not-false}
 use Rattle.checks.proofs.sets.bad_nodes.Statement.{statement}
 use Rattle.checks.proofs.sets.bad_nodes.Tie as tie
 

@@ -4,8 +4,7 @@ use Prim.Native.Nat.{_-_}
 use borrow.Author.Needs.{needs}
 use Rattle.definition.specs.Refusals.{badOrder}
 use Rattle.checks.specs.Below.{allBelow, below-small}
-use Rattle.checks.specs.Bools.{not-true, not-false}
-use borrow.Author.Tests.{eq-eqb, ne-eqb}
+use borrow.Author.Tests.{eq-eqb, ne-eqb, not-true, not-false}
 use Rattle.checks.proofs.sets.bad_order.Statement.{statement}
 use Rattle.checks.proofs.sets.bad_order.Tie as tie
 

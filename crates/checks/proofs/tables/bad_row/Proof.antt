@@ -2,7 +2,7 @@
 use mathlib.Core.Path.{sym, _∙_}
 use Prim.Native.Nat.{_-_}
 use borrow.Author.Needs.{needs}
-use Rattle.checks.specs.Bools.{not-true, not-false}
+use borrow.Author.Tests.{not-true, not-false}
 use Rattle.checks.specs.Rows.{row-bad-rest, row-end}
 use Rattle.checks.proofs.tables.bad_row.Statement.{statement}
 use Rattle.checks.proofs.tables.bad_row.Tie as tie

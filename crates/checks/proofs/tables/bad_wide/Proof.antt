@@ -1,9 +1,10 @@
 -- `bad_wide` meets its contract.
-use mathlib.Core.Path.{sym, ap, _∙_, subst}
-use Prim.Native.Nat.{ℕ, _-_, _≤_}
+use mathlib.Core.Path.{ap, _∙_}
+use Prim.Native.Nat.{ℕ}
+use native.Mathlib.Omega.{arith}
 use borrow.Author.Needs.{needs}
 use Rattle.definition.specs.Refusals.{badTable}
-use Rattle.checks.specs.Lengths.{slack-few}
+use Rattle.laws.specs.Tables.{slack-few}
 use Rattle.checks.proofs.tables.bad_wide.Statement.{statement}
 use Rattle.checks.proofs.tables.bad_wide.Tie as tie
 
@@ -11,7 +12,7 @@ slack-requires : tie.Need-slack-requires
 slack-requires c κs = search needs
 
 bad-table-requires : tie.Need-bad-table-requires
-bad-table-requires c κs = (c .before .before .pre .0, subst (λ (w : ℕ). w ≤ 128) (sym (c .slack .ensures)) (slack-few _ (c .before .before .pre .1)))
+bad-table-requires c κs = let s = c .before .before in (s .pre .0, omega (arith, slack-few (s .args .degree) (s .pre .1)))
 
 returns : tie.Need-returns
 returns c =

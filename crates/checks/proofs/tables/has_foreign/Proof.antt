@@ -5,7 +5,7 @@ use Prim.Native.Nat.{_-_}
 use native.Mathlib.Omega.{arith}
 use lib.ListN.{length}
 use borrow.Author.Needs.{needs}
-use Rattle.checks.specs.Looked.{Looked, look-start, look-bad, look-good, look-end}
+use Rattle.laws.specs.Looked.{Looked, look-start, look-bad, look-good, look-end}
 use Rattle.checks.specs.Foreign.{isWord, word-foreign, word-fine}
 use Rattle.definition.specs.Tables.{searchRule}
 use Rattle.checks.proofs.tables.has_foreign.Statement.{statement}

@@ -4,7 +4,7 @@ use Prim.Native.Nat.{_+_, _-_, _*_, _≤_}
 use native.Mathlib.Omega.{arith}
 use borrow.Author.Needs.{needs}
 use lib.ListN.{length}
-use Rattle.draws.specs.Rows.{Rowing, row-fits, rows-start, rows-turn, rows-end}
+use Rattle.draws.specs.Rows.{Rowing, row-within, rows-start, rows-turn, rows-end}
 use Rattle.draws.proofs.rows.fill_rows.Statement.{statement}
 use Rattle.draws.proofs.rows.fill_rows.Tie as tie
 
@@ -18,7 +18,7 @@ abbrev μ-loop : tie.MeasureT-loop
 fits : (c : tie.After-drawn Inv-loop μ-loop)
     → let l = c .before .before .before in let a = l .before .before .args in l .loop .i * a .degree + a .degree ≤ length (l .loop .table)
 fits c =
-    row-fits _ _ _ _ (c .before .before .loop-test .taken)
+    row-within _ _ _ _ (c .before .before .loop-test .taken)
     (c .before .before .before .loop .inv .1 .words .size ∙ c .before .before .before .before .before .pre .2)
 
 cast-entries : tie.Need-cast-entries Inv-loop μ-loop

@@ -1,4 +1,4 @@
--- `write_row` meets its contract: the part with ids, then the part with padding.
+-- `write_row` meets its contract: the part with ids, then padding.
 use borrow.Author.Needs.{needs}
 use Rattle.draws.specs.Rows.{row-written}
 use Rattle.draws.proofs.rows.write_row.Statement.{statement}
@@ -25,20 +25,8 @@ part-write-ids-end c = search needs
 write-ids-requires : tie.Need-write-ids-requires
 write-ids-requires c κs = search needs
 
-mul-only-padding : tie.Need-mul-only-padding
-mul-only-padding c = search needs
-
-sub-only-padding : tie.Need-sub-only-padding
-sub-only-padding c = search needs
-
-part-only-padding-start : tie.Need-part-only-padding-start
-part-only-padding-start c = search needs
-
-part-only-padding-end : tie.Need-part-only-padding-end
-part-only-padding-end c = search needs
-
-only-padding-requires : tie.Need-only-padding-requires
-only-padding-requires c κs = search needs
+pad-from-requires : tie.Need-pad-from-requires
+pad-from-requires c κs = search needs
 
 same-length : tie.Need-same-length
 same-length c = search needs
@@ -46,7 +34,7 @@ same-length c = search needs
 returns : tie.Need-returns
 returns c =
     row-written _ _ _ _ _ _ _ (c .before .before .before .before .before .before .before .before .least .ensures)
-    (c .before .before .before .before .before .before .write-ids .ensures) (c .before .before .only-padding .ensures)
+    (c .before .before .before .before .before .before .write-ids .ensures) (c .before .before .pad-from .ensures)
 
 pub write-row-spec : {M : Type 1} → statement M
 write-row-spec =
@@ -59,10 +47,6 @@ write-row-spec =
     part-write-ids-start
     part-write-ids-end
     write-ids-requires
-    mul-only-padding
-    sub-only-padding
-    part-only-padding-start
-    part-only-padding-end
-    only-padding-requires
+    pad-from-requires
     same-length
     returns)

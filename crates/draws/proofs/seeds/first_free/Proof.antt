@@ -24,7 +24,9 @@ is-taken-requires : tie.Need-is-taken-requires Inv-loop μ-loop
 is-taken-requires c κs = search needs
 
 returns : tie.Need-returns Inv-loop μ-loop
-returns c = let l = c .before .before .before .loop in free-here _ _ _ _ _ (l .inv .0) (l .inv .2) (c .before .before .loop-test .taken) (sym (not-true _ (c .if1 .taken)) ∙ c .before .is-taken .ensures)
+returns c =
+    let l = c .before .before .before .loop in
+    free-here _ _ _ _ _ (l .inv .0) (l .inv .2) (c .before .before .loop-test .taken) (sym (not-true _ (c .if1 .taken)) ∙ c .before .is-taken .ensures)
 
 add-wrapped : tie.Need-add-wrapped Inv-loop μ-loop
 add-wrapped c = search needs
@@ -41,10 +43,11 @@ loop-less c = omega arith
 loop-again : tie.Need-loop-again Inv-loop μ-loop
 loop-again c =
     let l = c .before .before .before .before .loop in
+    let taken = sym (not-false _ (c .before .if1 .left)) ∙ c .before .before .is-taken .ensures in
     let next = c .wrapped .ensures in (
       rw next (mod-lt _ (omega arith)),
       omega arith,
-      rw next (free-turn _ _ _ _ _ (l .inv .0) (l .inv .2) (c .before .before .before .loop-test .taken) (sym (not-false _ (c .before .if1 .left)) ∙ c .before .before .is-taken .ensures)),
+      rw next (free-turn _ _ _ _ _ (l .inv .0) (l .inv .2) (c .before .before .before .loop-test .taken) taken),
     )
 
 returns-2 : tie.Need-returns-2 Inv-loop μ-loop

@@ -1,2 +1,0 @@
--- A slice lent again for a call.
-pub mod Again

@@ -1,0 +1,116 @@
+-- What every part above the metric may use of a distance: "at most 256 samples give at most 16,646,400, below 2^24, so each distance is an exact whole
+-- number"; and it is symmetric, and 0 between equals. One record over any distance; the byte metric is one. Then the same of two entries, and of a query and
+-- an entry.
+use Prim.Native.Nat.{ℕ, zero, suc, _+_, _-_, _*_, _≤_, _<_, zero-le}
+use native.Mathlib.Nat.{add-comm, mul-le-mul}
+use native.Mathlib.Omega.{arith}
+use mathlib.Core.Path.{_≡_, refl, ap₂}
+use mathlib.Core.List.{List, [], _∷_}
+use lib.ListN.{length, getD, take, drop, length-take}
+use lib.Seq.{getD-drop}
+use Rattle.definition.specs.Metric.{gap, squared, summed, metric, vector, fromQuery, between}
+use Rattle.whole.specs.Whole.{farthest}
+
+-- ---- bytes: each element is below 256, past the end too, where `getD` gives 0. So the borrow checker says it of a slice of bytes
+
+abbrev pub Bytes : List ℕ → Type 0
+Bytes l = (k : ℕ) → getD l k 0 < 256
+
+pub bytes-drop : (n : ℕ) (l : List ℕ) → Bytes l → Bytes (drop n l)
+bytes-drop n l b k = rw (getD-drop n l k 0) (b (n + k))
+
+pub bytes-take : (n : ℕ) (l : List ℕ) → Bytes l → Bytes (take n l)
+bytes-take zero l b k = omega arith
+bytes-take (suc n) [] b k = omega arith
+bytes-take (suc n) (x ∷ xs) b zero = b 0
+bytes-take (suc n) (x ∷ xs) b (suc k) = bytes-take n xs (λ j. b (suc j)) k
+
+pub bytes-vector : (dim : ℕ) (vectors : List ℕ) (i : ℕ) → Bytes vectors → Bytes (vector dim vectors i)
+unfolding vector
+bytes-vector dim vectors i b = bytes-take dim (drop (i * dim) vectors) (bytes-drop (i * dim) vectors b)
+
+-- ---- any distance
+
+pub record GoodMetric (m : List ℕ → List ℕ → ℕ) : Type 0 where
+  pub symmetric : (xs ys : List ℕ) → m xs ys ≡ m ys xs
+  pub same : (xs : List ℕ) → m xs xs ≡ 0
+  -- at most 255 x 255 for each sample
+  pub most : (xs ys : List ℕ) → Bytes xs → Bytes ys → m xs ys ≤ 65025 * length xs
+
+-- the farthest: 16,646,400
+pub good-most : {m : List ℕ → List ℕ → ℕ} → GoodMetric m → (xs ys : List ℕ) → length xs ≤ 256 → Bytes xs → Bytes ys → m xs ys ≤ farthest
+good-most g xs ys h p q = let k = g .most xs ys p q in omega arith
+
+-- ---- the byte metric
+
+pub gap-most : (a b : ℕ) → a < 256 → b < 256 → gap a b ≤ 255
+unfolding gap
+gap-most a b p q = omega arith
+
+pub squared-most : (a b : ℕ) → a < 256 → b < 256 → squared a b ≤ 65025
+unfolding squared
+squared-most a b p q = mul-le-mul (gap-most a b p q) (gap-most a b p q)
+
+squared-sym : (a b : ℕ) → squared a b ≡ squared b a
+unfolding squared gap
+squared-sym a b = let e : (a - b) + (b - a) ≡ (b - a) + (a - b) = add-comm (a - b) (b - a) in ap₂ (λ (x y : ℕ). x * y) e e
+
+squared-same : (a : ℕ) → squared a a ≡ 0
+unfolding squared gap
+squared-same a = let e : (a - a) + (a - a) ≡ 0 = omega arith in ap₂ (λ (x y : ℕ). x * y) e e
+
+summed-sym : (xs ys : List ℕ) → summed squared xs ys ≡ summed squared ys xs
+unfolding summed
+summed-sym [] [] = refl
+summed-sym [] (y ∷ ys) = refl
+summed-sym (x ∷ xs) [] = refl
+summed-sym (x ∷ xs) (y ∷ ys) = ap₂ (λ (a b : ℕ). a + b) (squared-sym x y) (summed-sym xs ys)
+
+summed-same : (xs : List ℕ) → summed squared xs xs ≡ 0
+unfolding summed
+summed-same [] = refl
+summed-same (x ∷ xs) = ap₂ (λ (a b : ℕ). a + b) (squared-same x) (summed-same xs)
+
+summed-most : (xs ys : List ℕ) → Bytes xs → Bytes ys → summed squared xs ys ≤ 65025 * length xs
+unfolding summed
+summed-most [] ys p q = zero-le
+summed-most (x ∷ xs) [] p q = zero-le
+summed-most (x ∷ xs) (y ∷ ys) p q =
+    let a = squared-most x y (p 0) (q 0) in
+    let b = summed-most xs ys (λ k. p (suc k)) (λ k. q (suc k)) in
+    omega arith
+
+pub byte-metric : GoodMetric metric
+unfolding metric
+byte-metric = record { symmetric = summed-sym; same = summed-same; most = summed-most }
+
+-- ---- two entries
+
+vector-short : (dim : ℕ) (vectors : List ℕ) (i : ℕ) → length (vector dim vectors i) ≤ dim
+unfolding vector
+vector-short dim vectors i = let l = length-take dim (drop (i * dim) vectors) in omega arith
+
+-- the distance from entry i is that from a query that is its vector
+pub between-from : (dim : ℕ) (vectors : List ℕ) (i j : ℕ) → between dim vectors i j ≡ fromQuery dim vectors (vector dim vectors i) j
+unfolding between fromQuery
+between-from dim vectors i j = refl
+
+pub between-sym : (dim : ℕ) (vectors : List ℕ) (i j : ℕ) → between dim vectors i j ≡ between dim vectors j i
+unfolding between
+between-sym dim vectors i j = byte-metric .symmetric (vector dim vectors i) (vector dim vectors j)
+
+pub between-most : (dim : ℕ) (vectors : List ℕ) → Bytes vectors → (i j : ℕ) → between dim vectors i j ≤ 65025 * dim
+unfolding between
+between-most dim vectors b i j =
+    let k = byte-metric .most (vector dim vectors i) (vector dim vectors j) (bytes-vector dim vectors i b) (bytes-vector dim vectors j b) in
+    let l = vector-short dim vectors i in
+    omega arith
+
+pub between-small : (dim : ℕ) (vectors : List ℕ) → dim ≤ 256 → Bytes vectors → (i j : ℕ) → between dim vectors i j ≤ farthest
+between-small dim vectors h b i j = let k = between-most dim vectors b i j in omega arith
+
+-- ---- a query and an entry
+
+pub query-small : (dim : ℕ) (vectors query : List ℕ) → length query ≤ 256 → Bytes vectors → Bytes query → (i : ℕ) → fromQuery dim vectors query i ≤ farthest
+unfolding fromQuery
+query-small dim vectors query h b q i = good-most byte-metric query (vector dim vectors i) h q (bytes-vector dim vectors i b)

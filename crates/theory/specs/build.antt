@@ -1,0 +1,7 @@
+-- Open, batches, close. Batches: each keeps rows. Unaffected: the rows that a batch leaves. Runs: the runs of a whole build end. Alphas: settings with one
+-- target. Stretches: an order and its seeds, cut.
+pub mod Batches
+pub mod Unaffected
+pub mod Runs
+pub mod Alphas
+pub mod Stretches

@@ -1,0 +1,1 @@
+// No code: what walks by hand share stands in specs/.
