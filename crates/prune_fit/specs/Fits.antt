@@ -26,7 +26,7 @@ use Rattle.prune_items.specs.Held.{items-measured, wholes-measured}
 use Rattle.prune_pool.specs.Says.{Distinct}
 use Rattle.prune.specs.Says.{Measurable}
 use Rattle.theory.specs.prune.Pruned.{rounds-room}
-use Rattle.table.specs.Rows.{Stretched}
+use Rattle.table.specs.Rows.{Stretched, stretched-as}
 use Rattle.prune_fit.specs.Measured.{Distances}
 
 -- the ids as they are if there are at most `width`, otherwise pruned
@@ -44,17 +44,6 @@ pub record Fittable (g : Given) (node width : ℕ) (ids : List ℕ) : Type 0 whe
 -- only the row of the node differs: it is what the ids are fitted to
 pub record Fitted (g : Given) (node width : ℕ) (ids table₀ table : List ℕ) : Type 0 where
   pub row : Stretched table₀ table node width (length (fittedTo (setting g) width node ids)) (fittedTo (setting g) width node ids)
-
--- the same row said by other words
-pub stretched-as : (table₀ table : List ℕ) (p place width r : ℕ) (ids xs : List ℕ) → p ≡ place → ids ≡ xs → Stretched table₀ table p width r ids → Stretched table₀ table place width (length xs) xs
-stretched-as table₀ table p place width r ids xs q e s =
-    record {
-      count = refl;
-      words =
-          s .words
-          ∙ ap (λ (k : ℕ). take (k * width) table₀ ++ (padded width ids ++ drop (k * width + width) table₀)) q
-          ∙ ap (λ (l : List ℕ). take (place * width) table₀ ++ (padded width l ++ drop (place * width + width) table₀)) e;
-    }
 
 module _ (g : Given) (node width : ℕ) (ids table₀ table : List ℕ) {p r : ℕ} (q : p ≡ node) where
   pub fits-short : length ids ≤ width → Stretched table₀ table p width r ids → Fitted g node width ids table₀ table

@@ -3,7 +3,8 @@ ghost use mathlib.Core.Path.{_≡_};
 ghost use Prim.Native.Nat.{_+_, _*_, _≤_, _<_};
 ghost use lib.ListN.{length, replicate};
 ghost use lib.Ieee.{ofBits, binary32};
-ghost use Rattle.scratch.specs.Layout.{workAt, workEnd, workDistsEnd, poolAt, stampsAt, stampsEnd, poolDistsAt, factorsAt, factorsEnd, linksAt, linksEnd, freshAt, freshRowAt, freshEnd, floatsEnd};
+ghost use Rattle.scratch.specs.Layout.{workAt, workEnd, workDistsEnd, poolAt, stampsAt, stampsEnd, poolDistsAt, factorsAt};
+ghost use Rattle.scratch.specs.Layout.{factorsEnd, linksAt, linksEnd, freshAt, freshRowAt, freshEnd, floatsEnd};
 ghost use Rattle.scratch.specs.Clear.{FrontClear, RoomClear};
 
 // How many words a fresh row has.

@@ -35,7 +35,12 @@ same-length-2 : tie.Need-same-length-2
 same-length-2 c = search needs
 
 returns : tie.Need-returns
-returns c = let s = c .before .before .before .before .before .before .before .before .before .before in front-clear (s .args .w) (s .args .f) (s .args .words .now) (s .args .floats .now) _ _ (s .pre .0) (s .pre .1) (c .before .before .before .before .before .before .clear-words .ensures) (c .before .before .clear-floats .ensures)
+returns c =
+    let floats = c .before .before in
+    let words = floats .before .before .before .before in
+    let s = words .before .before .before .before in
+    front-clear (s .args .w) (s .args .f) (s .args .words .now) (s .args .floats .now) _ _ (s .pre .0) (s .pre .1)
+    (words .clear-words .ensures) (floats .clear-floats .ensures)
 
 pub clear-front-spec : {M : Type 1} → statement M
 clear-front-spec =

@@ -20,15 +20,11 @@ use Rattle.definition.specs.Build.{open′, closedIds, close, batchSize, batche
 use Rattle.laws.specs.Truth.{either, branch}
 use Rattle.laws.specs.Members.{keep-mem, joined-mem, groups-mem, take-mem, drop-mem, cons-elim, append-elim}
 use Rattle.laws.specs.Rising.{rising-mem, rising-apart}
-use Rattle.laws.specs.Tables.{row-tableOf}
+use Rattle.laws.specs.Tables.{row-tableOf, slack-wide}
 use Rattle.theory.specs.Kept.{RowKept, TableKept}
 use Rattle.theory.specs.Rule.{Fit, padded-kept, kept-length, kept-fit, kept-few, kept-table, kept-words}
 use Rattle.theory.specs.prune.Pruned.{pruned-ids}
 use Rattle.theory.specs.search.Ends.{visited-below}
-
-degree-slack : (degree : ℕ) → degree ≤ slack degree
-unfolding slack
-degree-slack degree = omega arith
 
 -- what passes the test of not being x
 differs : (w x : ℕ) → not (eqb w x) ≡ true → ¬ (w ≡ x)
@@ -43,7 +39,7 @@ opened-kept n degree opening low k =
     (λ i h.
     let r = k .rows i h in
     padded-kept n (slack degree) i (ids (row degree opening i)) (kept-fit n degree i (row degree opening i) low r)
-    (le-trans (kept-few n degree i (row degree opening i) low r) (degree-slack degree)))
+    (le-trans (kept-few n degree i (row degree opening i) low r) (slack-wide degree)))
 
 -- ---- what a batch and close do with a kept wide table
 
@@ -163,7 +159,7 @@ module _ (g : Setting) (wide : List ℕ) (ok : above (g .alpha) four ≡ false) 
   unfolding fitted
   fitted-fits i xs f =
       branch (λ (l : List ℕ). FitsIn (slack (g .degree)) i l) (leb (length xs) (slack (g .degree))) (λ e. (f, leb-true (length xs) (slack (g .degree)) e))
-      (λ e. pruned-fits i (slack (g .degree)) xs (degree-slack (g .degree)) (f .below))
+      (λ e. pruned-fits i (slack (g .degree)) xs (slack-wide (g .degree)) (f .below))
 
   row-kept : (ls : List Listed) → ((l : Listed) → Mem l ls → ListedFit (g .n) l) → (i : ℕ) → i < g .n
       → RowKept (g .n) (slack (g .degree)) i (mergedRow g wide ls i)

@@ -12,7 +12,7 @@ use Rattle.definition.specs.Lists.{keep, isIn, onceOnly}
 use Rattle.definition.specs.Tables.{pad, ids, padded}
 use Rattle.laws.specs.Truth.{either, decide, or-either, either-or, is-false, not-both}
 use Rattle.laws.specs.Members.{cons-elim, append-elim, keep-mem, replicate-mem}
-use Rattle.laws.specs.Tables.{ids-of}
+use Rattle.laws.specs.Tables.{ids-of, ids-first, ids-skip}
 use Rattle.theory.specs.search.Alike.{readOf}
 
 -- `seen`: the own id, and the words so far
@@ -40,15 +40,7 @@ plain-words P p (x ∷ ws) seen f w m =
     cons-elim P (cond (isIn x seen) pad x) (plainFrom (x ∷ seen) ws) (either P (isIn x seen) p (f x (here refl)))
     (λ u h. plain-words P p ws (x ∷ seen) (λ v k. f v (there k)) u h) w m
 
--- one word, by cases: of ids, and of onceOnly
-ids-none : (w : ℕ) (ws : List ℕ) → w ≡ pad → ids (w ∷ ws) ≡ ids ws
-unfolding ids keep
-ids-none w ws e = rw (eq-eqb w pad e)
-
-ids-one : (w : ℕ) (ws : List ℕ) → w ≢ pad → ids (w ∷ ws) ≡ w ∷ ids ws
-unfolding ids keep
-ids-one w ws n = rw (ne-eqb w pad n)
-
+-- one word, by cases: of onceOnly
 once-old : (seen : List ℕ) (x : ℕ) (xs : List ℕ) → isIn x seen ≡ true → onceOnly seen (x ∷ xs) ≡ onceOnly seen xs
 unfolding onceOnly
 once-old seen x xs e = rw e
@@ -106,17 +98,17 @@ plain-ids (w ∷ ws) a b h =
 
     by-pad : w ≡ pad → (Agree (w ∷ a) b → ids rest ≡ onceOnly b (ids ws)) → ids (cond (isIn w a) pad w ∷ rest) ≡ onceOnly b (ids (w ∷ ws))
     by-pad e ih =
-        ids-none (cond (isIn w a) pad w) rest (either (λ (u : ℕ). u ≡ pad) (isIn w a) refl e) ∙ ih (agree-pad a b w h e)
-        ∙ ap (onceOnly b) (sym (ids-none w ws e))
+        ids-skip (cond (isIn w a) pad w) rest (either (λ (u : ℕ). u ≡ pad) (isIn w a) refl e) ∙ ih (agree-pad a b w h e)
+        ∙ ap (onceOnly b) (sym (ids-skip w ws e))
 
     by-seen : w ≢ pad → (t : Bool) → isIn w a ≡ t → (Agree (w ∷ a) b → ids rest ≡ onceOnly b (ids ws))
         → (Agree (w ∷ a) (w ∷ b) → ids rest ≡ onceOnly (w ∷ b) (ids ws)) → ids (cond t pad w ∷ rest) ≡ onceOnly b (ids (w ∷ ws))
     by-seen n true e ih new =
-        ids-none pad rest refl ∙ ih (agree-old a b w h e)
-        ∙ sym (ap (onceOnly b) (ids-one w ws n) ∙ once-old b w (ids ws) (sym (h w n) ∙ e))
+        ids-skip pad rest refl ∙ ih (agree-old a b w h e)
+        ∙ sym (ap (onceOnly b) (ids-first w ws n) ∙ once-old b w (ids ws) (sym (h w n) ∙ e))
     by-seen n false e ih new =
-        ids-one w rest n ∙ ap (λ (l : List ℕ). w ∷ l) (new (agree-new a b w h))
-        ∙ sym (ap (onceOnly b) (ids-one w ws n) ∙ once-new b w (ids ws) (sym (h w n) ∙ e))
+        ids-first w rest n ∙ ap (λ (l : List ℕ). w ∷ l) (new (agree-new a b w h))
+        ∙ sym (ap (onceOnly b) (ids-first w ws n) ∙ once-new b w (ids ws) (sym (h w n) ∙ e))
 
 pub plain-read : (own : ℕ) (ws : List ℕ) → readOf own (plainRow own ws) ≡ readOf own ws
 unfolding plainRow
