@@ -11,6 +11,7 @@ use lib.ListN.{length, getD, take, drop}
 use lib.Seq.{take-take, take-add, drop-drop, drop-append-seam}
 use Rattle.definition.specs.Metric.{whole}
 use Rattle.definition.specs.Beam.{Item, item}
+use Rattle.definition.specs.Prune.{measured}
 use Rattle.definition.specs.Greedy.{State, visitedIds, expand}
 use Rattle.laws.specs.All.{All}
 use Rattle.laws.specs.Backwards.{map-append}
@@ -25,7 +26,7 @@ use Rattle.greedy.specs.declared.Plan.{Plan}
 use Rattle.greedy.specs.declared.Counts.{Counts}
 use Rattle.greedy.specs.Scratch.{Standing, counts, standing, logOf, visitedDistsOf, Space, space-kept, Ready, Works, Working, Is}
 use Rattle.greedy.specs.Scratch.{Come, Met, Moves, meets}
-use Rattle.greedy.specs.Cases.{meets-visited, measured, measured-ids, expand-meets}
+use Rattle.greedy.specs.Cases.{meets-visited, measured-ids, expand-meets}
 
 -- ---- the first `to` places behind a, cut at `from`
 module _ {A : Type 0} (l : List A) (a e from to : ℕ) (le : from ≤ to) (room : to ≤ e - a) where
@@ -64,10 +65,12 @@ works-visited p ids dists c v frontier work k =
 -- ---- items of ids with their distances
 module _ (d : ℕ → ℕ) where
   measured-dists : (l : List ℕ) → map (λ (c : Item). whole (c .dist)) (measured d l) ≡ map (λ (i : ℕ). whole (d i)) l
+  unfolding measured
   measured-dists [] = refl
   measured-dists (i ∷ is) = ap (λ (z : List Float). whole (d i) ∷ z) (measured-dists is)
 
   measured-small : (l : List ℕ) → ((j : ℕ) → j < length l → Small (item (d (getD l j 0)) (getD l j 0))) → All Small (measured d l)
+  unfolding measured
   measured-small [] h = tt
   measured-small (i ∷ is) h = (h 0 (omega arith), measured-small is (λ j k. h (suc j) (omega arith)))
 

@@ -9,6 +9,7 @@ use lib.ListN.{length}
 use Rattle.definition.specs.Lists.{isIn}
 use Rattle.definition.specs.Tables.{pad}
 use Rattle.definition.specs.Beam.{Item, item, insert, insertCapped, best, beatsWorst}
+use Rattle.definition.specs.Prune.{measured}
 use Rattle.definition.specs.Greedy.{State, visitedIds, begin, admitted, meet, skipped, look, expand, popped, step, stops, filled, steps, greedy}
 use Rattle.laws.specs.Backwards.{map-append}
 use Rattle.marks.specs.Marked.{news}
@@ -53,10 +54,8 @@ meets-visited beam st (x ∷ xs) =
     meets-visited beam (meet beam x st) xs ∙ ap (λ (z : List Item). z ++ xs) (meet-visited beam x st) ∙ append-assoc (st .visited) (x ∷ []) xs
 
 -- ---- a row: its new ids are met, in order
-abbrev pub measured : (ℕ → ℕ) → List ℕ → List Item
-measured d l = map (λ (i : ℕ). item (d i) i) l
-
 pub measured-ids : (d : ℕ → ℕ) (l : List ℕ) → map (λ (c : Item). c .id) (measured d l) ≡ l
+unfolding measured
 measured-ids d [] = refl
 measured-ids d (i ∷ is) = ap (λ (z : List ℕ). i ∷ z) (measured-ids d is)
 
@@ -66,7 +65,7 @@ module _ (d : ℕ → ℕ) (beam : ℕ) where
   meet-ids st w = ap (map (λ (c : Item). c .id)) (meet-visited beam (item (d w) w) st) ∙ map-append (λ (c : Item). c .id) (st .visited) (item (d w) w ∷ [])
 
   pub expand-meets : (row : List ℕ) (st : State) → expand d beam st row ≡ meets beam st (measured d (news (visitedIds st) row))
-  unfolding expand meets news look skipped
+  unfolding expand meets measured news look skipped
   expand-meets [] st = refl
   expand-meets (w ∷ ws) st = go (eqb w pad || isIn w (visitedIds st)) (expand-meets ws st) (expand-meets ws met)
     where
