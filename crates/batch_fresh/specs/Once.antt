@@ -1,18 +1,18 @@
 -- Entry by entry: no id stands twice in a fresh row, and each is an id below n or padding. And the scratch as a batch begins with it.
 use mathlib.Core.Path.{_≡_, refl, sym, ap, _∙_, subst}
 use mathlib.Core.Bool.{Bool, true, false}
-use mathlib.Core.List.{List, _++_, List·Memᴰ as Mem}
+use mathlib.Core.List.{List, List·Memᴰ as Mem}
 use Prim.Native.Nat.{ℕ, zero, suc, _+_, _*_, _-_, _/_, _≤_, _<_}
 use native.Mathlib.Omega.{arith}
 use borrow.Author.Tests.{ltb-true, ltb-false}
 use lib.Dec.{ltb}
-use lib.ListN.{length, getD, replicate, List·getD-append, getD-replicate}
-use lib.Seq.{getD-append-add}
+use lib.ListN.{length, getD}
 use Rattle.definition.specs.Tables.{pad, padded}
 use Rattle.laws.specs.Listed.{freshWidth}
 use Rattle.laws.specs.Members.{mem-at}
 use Rattle.laws.specs.Apart.{Apart, nobody, another}
 use Rattle.laws.specs.Parts.{part-at}
+use Rattle.laws.specs.Tables.{padded-id, padded-pad}
 use Rattle.laws.specs.Words.{padding}
 use Rattle.scratch.specs.Layout.{stampsAt, freshAt, freshRowAt}
 use Rattle.scratch.specs.Lent.{Lent}
@@ -29,30 +29,14 @@ apart-at (another {x = x} {xs = xs} n a) zero (suc j) h l e = n (subst (λ (z : 
 apart-at (another n a) (suc i) (suc j) h l e = apart-at a i j (omega arith) (omega arith) e
 
 module _ {n own : ℕ} {xs : List ℕ} (fit : Fit n own xs) where
-  abbrev tail : List ℕ
-  tail = replicate (freshWidth - length xs) pad
-
-  -- in front the row has its ids, behind them padding
-  id-at : (i : ℕ) → i < length xs → getD (padded freshWidth xs) i 0 ≡ getD xs i 0
-  unfolding padded
-  id-at i h = List·getD-append xs tail 0 i h
-
-  pad-at : (j : ℕ) → length xs ≤ j → j < freshWidth → getD (padded freshWidth xs) j 0 ≡ pad
-  unfolding padded
-  pad-at j h l =
-      let q : length xs + (j - length xs) ≡ j = omega arith in
-      ap (λ (z : ℕ). getD (xs ++ tail) z 0) (sym q)
-      ∙ getD-append-add xs tail (j - length xs) 0
-      ∙ getD-replicate (freshWidth - length xs) (j - length xs) pad 0 (omega arith)
-
   -- of two equal words the later one is padding
   padded-once : n ≤ 65536 → (i j : ℕ) → i < j → j < freshWidth → getD (padded freshWidth xs) i 0 ≡ getD (padded freshWidth xs) j 0
       → (t : Bool) → ltb j (length xs) ≡ t → n ≤ getD (padded freshWidth xs) j 0
   unfolding pad
   padded-once small i j h l e true t =
       let k : j < length xs = ltb-true j (length xs) t in
-      absurd (apart-at (fit .once) i j h k (sym (id-at i (omega arith)) ∙ e ∙ id-at j k))
-  padded-once small i j h l e false t = let p = pad-at j (ltb-false j (length xs) t) l in omega arith
+      absurd (apart-at (fit .once) i j h k (sym (padded-id freshWidth xs i (omega arith)) ∙ e ∙ padded-id freshWidth xs j k))
+  padded-once small i j h l e false t = let p = padded-pad freshWidth xs j (ltb-false j (length xs) t) l in omega arith
 
   -- a word that is no padding is one of the ids
   padded-below : (j : ℕ) → j < freshWidth → (getD (padded freshWidth xs) j 0 ≡ padding → ⊥) → (t : Bool) → ltb j (length xs) ≡ t
@@ -60,8 +44,8 @@ module _ {n own : ℕ} {xs : List ℕ} (fit : Fit n own xs) where
   unfolding pad
   padded-below j h p true t =
       let k = ltb-true j (length xs) t in
-      subst (λ (z : ℕ). z < n) (sym (id-at j k)) (fit .below (getD xs j 0) (mem-at 0 xs j k))
-  padded-below j h p false t = absurd (p (pad-at j (ltb-false j (length xs) t) h))
+      subst (λ (z : ℕ). z < n) (sym (padded-id freshWidth xs j k)) (fit .below (getD xs j 0) (mem-at 0 xs j k))
+  padded-below j h p false t = absurd (p (padded-pad freshWidth xs j (ltb-false j (length xs) t) h))
 
 -- ---- the entries of the fresh rows, counted from the first word of the first row
 module _ {g : Given} {wide : List ℕ} {l : Listing} {before after : Lent} {k : ℕ} (m : RowsMade g wide l before after k) where

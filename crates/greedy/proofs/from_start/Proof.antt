@@ -2,7 +2,6 @@
 use Prim.Native.Nat.{_-_}
 use Rattle.definition.specs.Tables.{row}
 use Rattle.greedy.proofs.Starting.{zero-reaches, begun-ready, begun-live, walk-reaches}
-use Rattle.greedy.proofs.Starting.{zero-reaches, begun-ready, begun-live, walk-reaches}
 use borrow.Author.Needs.{needs}
 use Rattle.greedy.proofs.from_start.Statement.{statement}
 use Rattle.greedy.proofs.from_start.Tie as tie
