@@ -2,19 +2,20 @@
 use Prim.Native.Nat.{ℕ, _+_, _*_, _≤_, _<_}
 use native.Mathlib.Omega.{arith}
 use mathlib.Core.Path.{_≡_, refl, ap}
-use mathlib.Core.Bool.{true, false, not, _&&_, _||_, true≢false}
+use mathlib.Core.Bool.{true, false, not, _&&_, _||_, or-false, true≢false}
 use mathlib.Core.List.{List, List·Memᴰ as Mem}
 use borrow.Author.Tests.{ltb-true, ltb-false, lt-ltb, le-ltb, leb-false, eqb-true, eqb-false, eq-eqb, not-false}
 use lib.Dec.{leb, ltb, eqb}
 use lib.Ieee.{Float, nan, inf, fin, up, down, lt, ofBits}
 use lib.ListN.{length}
 use Rattle.definition.specs.Lists.{each, distinct, groups}
-use Rattle.definition.specs.Tables.{pad, buildRule, searchRule}
+use Rattle.definition.specs.Tables.{pad, buildRule, searchRule, cleaned}
 use Rattle.definition.specs.Floats.{one, four, above}
 use Rattle.definition.specs.Refusals.{badDim, badCount, badVectors, badDegree, badBeam, badAlpha, badStart, badExtra, goodGroup, badSeeds, badLength, badTable}
 use Rattle.definition.specs.Refusals.{badSearched, badNodes, badOrder, short, buildWords, buildFloats, badPivots}
 use Rattle.laws.specs.Truth.{and-both, or-neither, neither-or}
 use Rattle.laws.specs.Members.{each-mem, mem-each, mem-groups}
+use Rattle.laws.specs.Cleaned.{length-cleaned, cleaned-rule}
 use Rattle.laws.specs.Apart.{Apart, distinct-apart, apart-distinct}
 use Rattle.theory.specs.Kept.{TableKept}
 use Rattle.theory.specs.Rule.{Ruled, rule-ruled, kept-rule, kept-searchRule}
@@ -167,6 +168,11 @@ pub searched-passes : (n degree : ℕ) (table : List ℕ) → length table ≡ n
 unfolding badSearched
 searched-passes n degree table size rule =
     neither-or (badLength n degree table) (not (searchRule n table)) (length-passes n degree table size) (ap not rule)
+
+-- a table as cleaned keeps the search rule: check 8 is left with its length
+pub cleaned-searched : (n degree : ℕ) (table : List ℕ) → badSearched n degree (cleaned n table) ≡ badLength n degree table
+unfolding badSearched badLength
+cleaned-searched n degree table = rw (cleaned-rule n table, length-cleaned n table) (or-false (badLength n degree table))
 
 pub searched-kept : (n degree : ℕ) (table : List ℕ) → TableKept n degree table → badSearched n degree table ≡ false
 searched-kept n degree table k = searched-passes n degree table (k .size) (kept-searchRule n degree table k)

@@ -12,7 +12,7 @@ use Rattle.definition.specs.declared.Candidate.{Candidate}
 use Rattle.definition.specs.Slack.{slack}
 use Rattle.definition.specs.Refusals.{BatchCall, OpenCall, CloseCall, BuildCall, MedoidCall, SearchCall, batchNumber, openNumber, closeNumber, buildNumber}
 use Rattle.definition.specs.Refusals.{medoidNumber, searchNumber, searchNumberAt, searchShort, recordsNumber}
-use Rattle.definition.specs.Refusals.{_when_else_, badSeeds, badLength, badTable, badSearched, badOrder, badPivots}
+use Rattle.definition.specs.Refusals.{_when_else_, badVectors, badDegree, badSeeds, badLength, badTable, badSearched, badOrder, badPivots}
 use Rattle.accepted.specs.Chain.{past}
 
 -- m is not the number k of this check, nor what the later ones say
@@ -73,6 +73,21 @@ pub medoid-not-12 : (c : MedoidCall) → badPivots (c .n) (c .pivots) ≡ false 
 unfolding medoidNumber
 medoid-not-12 c p = beside 1 12 _ _ refl (beside 2 12 _ _ refl (clear 12 12 _ _ p (done 12 refl)))
 
+-- m is none of the later numbers of a search
+later : (m : ℕ) → m < 4 → (d e f g h : Bool) → 0 ≢ m → (4 when d else 6 when e else 8 when f else 10 when g else 11 when h else 0) ≢ m
+later m l d e f g h z =
+    let no : (k : ℕ) → 4 ≤ k → eqb k m ≡ false = λ k q. ne-eqb k m (λ r. omega arith) in
+    beside 4 m _ _ (no 4 (lit≤ tt))
+    (beside 6 m _ _ (no 6 (lit≤ tt)) (beside 8 m _ _ (no 8 (lit≤ tt)) (beside 10 m _ _ (no 10 (lit≤ tt)) (beside 11 m _ _ (no 11 (lit≤ tt)) z))))
+
+number-not-2 : (tooShort : Bool) (c : SearchCall) → badVectors (c .n) (c .dim) (c .vectors) ≡ false → searchNumberAt tooShort c ≢ 2
+unfolding searchNumberAt
+number-not-2 tooShort c p = beside 1 2 _ _ refl (clear 2 2 _ _ p (beside 3 2 _ _ refl (later 2 (lit< tt) _ _ _ _ _ (done 2 refl))))
+
+number-not-3 : (tooShort : Bool) (c : SearchCall) → badDegree (c .degree) ≡ false → searchNumberAt tooShort c ≢ 3
+unfolding searchNumberAt
+number-not-3 tooShort c p = beside 1 3 _ _ refl (beside 2 3 _ _ refl (clear 3 3 _ _ p (later 3 (lit< tt) _ _ _ _ _ (done 3 refl))))
+
 number-not-8 : (tooShort : Bool) (c : SearchCall) → badSearched (c .n) (c .degree) (c .table) ≡ false → searchNumberAt tooShort c ≢ 8
 unfolding searchNumberAt
 number-not-8 tooShort c p =
@@ -80,6 +95,16 @@ number-not-8 tooShort c p =
     (beside 3 8 _ _ refl (beside 4 8 _ _ refl (beside 6 8 _ _ refl (clear 8 8 _ _ p (beside 10 8 _ _ refl (beside 11 8 _ _ refl (done 8 refl))))))))
 
 -- with a run of records too
+pub search-not-2 : (c : SearchCall) → badVectors (c .n) (c .dim) (c .vectors) ≡ false
+    → (searchNumber c ≢ 2) × ((records : List Candidate) → recordsNumber c records ≢ 2)
+unfolding searchNumber recordsNumber
+search-not-2 c p = (number-not-2 (searchShort c) c p, λ records. number-not-2 _ c p)
+
+pub search-not-3 : (c : SearchCall) → badDegree (c .degree) ≡ false
+    → (searchNumber c ≢ 3) × ((records : List Candidate) → recordsNumber c records ≢ 3)
+unfolding searchNumber recordsNumber
+search-not-3 c p = (number-not-3 (searchShort c) c p, λ records. number-not-3 _ c p)
+
 pub search-not-8 : (c : SearchCall) → badSearched (c .n) (c .degree) (c .table) ≡ false
     → (searchNumber c ≢ 8) × ((records : List Candidate) → recordsNumber c records ≢ 8)
 unfolding searchNumber recordsNumber

@@ -20,3 +20,9 @@ module _ {A : Type 0} (kept done : A) where
   unfolding byNumber
   said-zero says zero e h = refl
   said-zero says (suc k) e h = sym e ∙ h
+
+  -- and what says 0 of a success says the number
+  pub said-number : (says : A → ℕ) (k : ℕ) → says kept ≡ k → says done ≡ 0 → says (byNumber k kept done) ≡ k
+  unfolding byNumber
+  said-number says zero e d = d
+  said-number says (suc k) e d = e

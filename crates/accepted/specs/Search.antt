@@ -1,6 +1,6 @@
--- What a search has that is accepted: without a run of records, with one, and as a text of `seek`.
+-- What a search has that is accepted: without a run of records, with one, and as a text of `seek`. A lookup is the search of its call as cleaned.
 use Prim.Native.Nat.{ℕ, _+_, _*_, _≤_, _<_}
-use mathlib.Core.Path.{_≡_}
+use mathlib.Core.Path.{_≡_, ap}
 use mathlib.Core.Bool.{Bool, true, false, _||_}
 use mathlib.Core.List.{List}
 use borrow.Author.Tests.{ltb-false, eqb-true, not-false}
@@ -9,9 +9,11 @@ use lib.ListN.{length}
 use Rattle.definition.specs.declared.Candidate.{Candidate}
 use Rattle.definition.specs.Tables.{searchRule}
 use Rattle.definition.specs.Refusals.{SearchCall, short, searchWords, searchFloats, mostAnswers, searchShort, searchNumberAt, searchNumber, recordsNumber}
+use Rattle.definition.specs.Outcome.{cleanedCall}
 use Rattle.definition.specs.Seek.{values, malformed, seekCall, seekNumber}
 use Rattle.laws.specs.Truth.{or-neither}
 use Rattle.laws.specs.Words.{Searchable}
+use Rattle.laws.specs.Cleaned.{cleaned-same}
 use Rattle.theory.specs.Rule.{searchRule-searchable}
 use Rattle.accepted.specs.Chain.{passed}
 use Rattle.accepted.specs.Checks.{dim-good, vectors-good, degree-good, beam-good, start-good, searched-good}
@@ -94,6 +96,27 @@ number-accepted tooShort c alone e =
 pub search-accepted : (c : SearchCall) → searchNumber c ≡ 0 → SearchAccepted c
 unfolding searchNumber
 search-accepted c e = number-accepted (searchShort c) c (λ s. s) e .0
+
+-- a call whose table keeps the search rule is the same as cleaned
+pub cleaned-call : (c : SearchCall) → searchRule (c .n) (c .table) ≡ true → cleanedCall c ≡ c
+unfolding cleanedCall
+cleaned-call c rule =
+    ap (λ (table : List ℕ).
+    record {
+      n = c .n;
+      dim = c .dim;
+      vectors = c .vectors;
+      degree = c .degree;
+      beam = c .beam;
+      k = c .k;
+      start = c .start;
+      table = table;
+      query = c .query;
+      words = c .words;
+      floats = c .floats;
+      ids = c .ids;
+      dists = c .dists;
+    }) (cleaned-same (c .n) (c .table) (searchRule-searchable (c .n) (c .table) rule))
 
 -- with `run` records beside the two outputs
 pub accepted-at : (c : SearchCall) (run : ℕ) → searchNumberAt (searchShort c || ltb run (mostAnswers (c .beam) (c .k))) c ≡ 0

@@ -11,7 +11,7 @@ use Rattle.definition.specs.declared.Params.{Params}
 use Rattle.definition.specs.declared.Candidate.{Candidate}
 use Rattle.definition.specs.Lists.{over, cleared}
 use Rattle.definition.specs.Metric.{metric, between, fromQuery, whole}
-use Rattle.definition.specs.Tables.{row}
+use Rattle.definition.specs.Tables.{row, cleaned}
 use Rattle.definition.specs.Beam.{Item}
 use Rattle.definition.specs.Floats.{nought}
 use Rattle.definition.specs.Batch.{Setting, batch}
@@ -19,8 +19,10 @@ use Rattle.definition.specs.Build.{open′, close, built}
 use Rattle.definition.specs.Medoid.{medoid}
 use Rattle.definition.specs.Search.{answers}
 use Rattle.definition.specs.Draws.{Drawn, advance, drawn, rowsDrawn, seedsDrawn, orderDrawn, pivotsDrawn}
-use Rattle.definition.specs.Refusals.{DistanceCall, BatchCall, OpenCall, CloseCall, BuildCall, MedoidCall, SearchCall, RowsCall, SeedsCall, DrawsCall}
-use Rattle.definition.specs.Refusals.{distanceNumber, batchNumber, openNumber, closeNumber, buildNumber, medoidNumber, searchNumber, recordsNumber, rowsNumber, seedsNumber, orderNumber, pivotsNumber}
+use Rattle.definition.specs.Refusals.{DistanceCall, BatchCall, OpenCall, CloseCall, BuildCall, MedoidCall, SearchCall, FitCall}
+use Rattle.definition.specs.Refusals.{RowsCall, SeedsCall, DrawsCall}
+use Rattle.definition.specs.Refusals.{distanceNumber, batchNumber, openNumber, closeNumber, buildNumber, medoidNumber, searchNumber, recordsNumber}
+use Rattle.definition.specs.Refusals.{fitNumber, rowsNumber, seedsNumber, orderNumber, pivotsNumber}
 use Rattle.definition.specs.Refusals.{buildWords, buildFloats, searchWords, searchFloats}
 
 -- ---- answers: the number, and the field that the call fills; every other field is 0
@@ -235,6 +237,42 @@ recordsOut c rs = byNumber (recordsNumber c rs) (recordsKept c rs) (recordsDone 
 pub record RecordsMeets (c : SearchCall) (rs : List Candidate) (o : RecordsOut) : Type 0 where
   pub plain-is : o .plain ≡ recordsOut c rs .plain
   pub records-are : o .records ≡ recordsOut c rs .records
+
+-- ---- lookup: what a search leaves that is given the table as cleaned. Such a table keeps the search rule, so that 8 is left for its length alone
+
+-- the call with its table as cleaned
+unfoldable pub cleanedCall : SearchCall → SearchCall
+cleanedCall c =
+    record {
+      n = c .n;
+      dim = c .dim;
+      vectors = c .vectors;
+      degree = c .degree;
+      beam = c .beam;
+      k = c .k;
+      start = c .start;
+      table = cleaned (c .n) (c .table);
+      query = c .query;
+      words = c .words;
+      floats = c .floats;
+      ids = c .ids;
+      dists = c .dists;
+    }
+
+unfoldable pub lookupOut : SearchCall → SearchOut
+lookupOut c = searchOut (cleanedCall c)
+
+pub record LookupMeets (c : SearchCall) (o : SearchOut) : Type 0 where
+  pub answer-is : o .answer ≡ lookupOut c .answer
+  pub words-is : o .words ≡ lookupOut c .words
+  pub floats-is : o .floats ≡ lookupOut c .floats
+  pub ids-are : o .ids ≡ lookupOut c .ids
+  pub dists-are : o .dists ≡ lookupOut c .dists
+
+-- ---- fit: its number is all that it says
+
+unfoldable pub fitOut : FitCall → Answer
+fitOut c = refused (fitNumber c)
 
 -- ---- draws
 

@@ -256,6 +256,20 @@ searchNumber c = searchNumberAt (searchShort c) c
 unfoldable pub recordsNumber : SearchCall → List Candidate → ℕ
 recordsNumber c records = searchNumberAt (searchShort c || short (mostAnswers (c .beam) (c .k)) records) c
 
+-- ---- fit: those checks of a search that concern its table alone, 2 by n alone
+
+pub record FitCall : Type 0 where
+  pub n : ℕ
+  pub degree : ℕ
+  pub table : List ℕ
+
+unfoldable pub fitNumber : FitCall → ℕ
+fitNumber c =
+    2 when badCount (c .n) else
+    3 when badDegree (c .degree) else
+    8 when badSearched (c .n) (c .degree) (c .table) else
+    0
+
 -- ---- draws. A single draw is never refused
 
 pub record RowsCall : Type 0 where

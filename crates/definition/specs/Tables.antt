@@ -1,6 +1,6 @@
--- Tables: flat words, rows of one width, 0xFFFFFFFF for padding; the build rule and the search rule.
+-- Tables: flat words, rows of one width, 0xFFFFFFFF for padding; the build rule and the search rule; a table as cleaned.
 use Prim.Native.Nat.{ℕ, _-_, _*_}
-use mathlib.Core.Bool.{Bool, not, _&&_, _||_}
+use mathlib.Core.Bool.{Bool, not, _&&_, _||_, cond}
 use mathlib.Core.List.{List, _++_, map}
 use lib.Dec.{ltb, eqb}
 use lib.ListN.{length, take, drop, replicate}
@@ -43,3 +43,7 @@ buildRule n width table = each (λ i. buildRow n i (row width table i)) (upto n)
 -- search rule: every word is padding or an id below n
 unfoldable pub searchRule : ℕ → List ℕ → Bool
 searchRule n table = each (λ w. eqb w pad || ltb w n) table
+
+-- a table as `lookup` reads it: each word that is no id below n is padding
+unfoldable pub cleaned : ℕ → List ℕ → List ℕ
+cleaned n table = map (λ w. cond (ltb w n) w pad) table

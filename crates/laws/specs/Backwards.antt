@@ -1,14 +1,13 @@
--- A list from its end to its front, and a slice that is filled with it from the left.
-use mathlib.Core.Path.{_≡_, refl, sym, ap, _∙_}
+-- A list from its end to its front: what stands where, one more put in, one place set.
+use mathlib.Core.Path.{_≡_, refl, sym, ap, ap₂, _∙_}
 use mathlib.Core.Bool.{Bool, true, false}
-use mathlib.Core.List.{List, [], _∷_, _++_, map}
+use mathlib.Core.List.{List, [], _∷_, _++_, append-assoc, append-nil, map}
 use Prim.Native.Nat.{ℕ, zero, suc, _+_, _-_, _≤_, _<_, min}
 use native.Mathlib.Omega.{arith}
 use borrow.Author.Tests.{ltb-true, ltb-false, leb-true, leb-false}
 use lib.Dec.{leb, ltb}
-use lib.ListN.{length, getD, take, drop, set, length-append, List·getD-append}
-use lib.Seq.{take-all, getD-append-add}
-use Rattle.laws.specs.Writing.{copy-step}
+use lib.ListN.{length, getD, take, drop, set, length-append, length-drop, take-append-drop, List·getD-append}
+use lib.Seq.{take-all, take-at, drop-at, split-at, set-at, set-split, getD-append-add}
 
 module _ {A : Type 0} where
   unfoldable pub rev : List A → List A
@@ -41,14 +40,6 @@ module _ {A : Type 0} where
           let q : suc (length xs) - 1 - i ≡ 0 = omega arith in
           ap (λ (k : ℕ). getD (rev xs ++ (x ∷ [])) k d) p ∙ getD-append-add (rev xs) (x ∷ []) 0 d ∙ ap (λ (k : ℕ). getD (x ∷ xs) k d) (sym q)
 
-  -- the store of the i-th from the end of s at place i
-  pub back-step : (d : A) (s old : List A) (i len : ℕ) → length s ≡ len → i < len → i < length old
-      → set (take i (rev s) ++ drop i old) i (getD s (len - 1 - i) d) ≡ take (i + 1) (rev s) ++ drop (i + 1) old
-  back-step d s old i len e h k =
-      let n : length (rev s) ≡ len = length-rev s ∙ e in
-      let v : getD s (len - 1 - i) d ≡ getD (rev s) i d = ap (λ (m : ℕ). getD s (m - 1 - i) d) (sym e) ∙ sym (getD-rev d s i (omega arith)) in
-      ap (set (take i (rev s) ++ drop i old) i) v ∙ copy-step d (rev s) old i (omega (arith, n)) k
-
   -- the first k, or all where there are fewer
   pub take-least : (k c : ℕ) (l : List A) → c ≡ min k (length l) → take c l ≡ take k l
   take-least k c l e = go (leb k (length l)) refl
@@ -70,3 +61,37 @@ pub map-take : {A B : Type 0} (f : A → B) (k : ℕ) (l : List A) → map f (ta
 map-take f zero l = refl
 map-take f (suc k) [] = refl
 map-take {A} {B} f (suc k) (x ∷ xs) = ap (λ (z : List B). f x ∷ z) (map-take f k xs)
+
+-- ---- two lists, and one place
+rev-append : {A : Type 0} (l m : List A) → rev (l ++ m) ≡ rev m ++ rev l
+unfolding rev
+rev-append [] m = sym (append-nil (rev m))
+rev-append {A} (x ∷ l) m = ap (λ (z : List A). z ++ (x ∷ [])) (rev-append l m) ∙ append-assoc (rev m) (rev l) (x ∷ [])
+
+rev-middle : {A : Type 0} (l : List A) (y : A) (m : List A) → rev (l ++ y ∷ m) ≡ rev m ++ y ∷ rev l
+unfolding rev
+rev-middle l y m = rev-append l (y ∷ m) ∙ append-assoc (rev m) (y ∷ []) (rev l)
+
+-- y put in at j: from the back it is put in at the place that has as many in front as there are from j on
+pub rev-put-in : {A : Type 0} (y : A) (l : List A) (j at : ℕ) → j + at ≡ length l
+    → rev (take j l ++ y ∷ drop j l) ≡ take at (rev l) ++ y ∷ drop at (rev l)
+rev-put-in {A} y l j at e = rev-middle (take j l) y (drop j l) ∙ ap₂ (λ (u v : List A). u ++ y ∷ v) (sym front) (sym back)
+  where
+    size : length (rev (drop j l)) ≡ at
+    size = length-rev (drop j l) ∙ length-drop j l ∙ omega arith
+
+    parts : rev l ≡ rev (drop j l) ++ rev (take j l)
+    parts = ap rev (sym (take-append-drop j l)) ∙ rev-append (take j l) (drop j l)
+
+    front : take at (rev l) ≡ rev (drop j l)
+    front = ap (take at) parts ∙ take-at (rev (drop j l)) (rev (take j l)) at size
+
+    back : drop at (rev l) ≡ rev (take j l)
+    back = ap (drop at) parts ∙ drop-at (rev (drop j l)) (rev (take j l)) at size
+
+-- the i-th from the end is set
+pub rev-set : {A : Type 0} (d : A) (l : List A) (i j : ℕ) (v : A) → i < length l → j ≡ length l - 1 - i → set (rev l) j v ≡ rev (set l i v)
+rev-set {A} d l i j v h e =
+    ap (λ (z : List A). set z j v) (ap rev (split-at l i d h) ∙ rev-middle (take i l) (getD l i d) (drop (suc i) l))
+    ∙ set-at (rev (drop (suc i) l)) (getD l i d) (rev (take i l)) v j (length-rev (drop (suc i) l) ∙ length-drop (suc i) l ∙ omega arith)
+    ∙ sym (rev-middle (take i l) v (drop (suc i) l)) ∙ ap rev (sym (set-split l i v h))

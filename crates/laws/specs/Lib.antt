@@ -8,8 +8,9 @@
 --   Draws     a draw below m is below m                        Remainders numbers less than m apart differ modulo m
 --   Listed    the listed nodes with their fresh rows           Places     earlier and later places of a list in order
 --   Below     what holds of every number below a bound         Inserts    what `insert` and capped insert leave
---   Looked    a loop that looks for what fails a test
+--   Looked    a loop that looks for what fails a test          Paired     items held in two lists, ids and distances
 --   All       what holds of every element of a list            Mapped     a list with f of each element
+--   Cleaned   a table as `lookup` reads it                     Descending items that descend, as in a beam
 pub mod Truth
 pub mod Members
 pub mod Apart
@@ -31,3 +32,6 @@ pub mod Places
 pub mod Looked
 pub mod All
 pub mod Mapped
+pub mod Paired
+pub mod Cleaned
+pub mod Descending

@@ -1,4 +1,5 @@
--- "Search beam 0 acts as 1": the whole outcome of every call with beam 0, refused or not, is that of the same call with beam 1; with a run of records too.
+-- "Search beam 0 acts as 1": the whole outcome of every call with beam 0, refused or not, is that of the same call with beam 1; with a run
+-- of records too, and of a lookup.
 use Prim.Native.Nat.{ℕ}
 use mathlib.Core.Path.{_≡_, ap}
 use mathlib.Core.List.{List}
@@ -6,6 +7,7 @@ use Rattle.definition.specs.declared.Candidate.{Candidate}
 use Rattle.definition.specs.Search.{searched, answers}
 use Rattle.definition.specs.Refusals.{SearchCall, searchNumber, searchNumberAt, searchShort, recordsNumber, badBeam, mostAnswers}
 use Rattle.definition.specs.Outcome.{found, foundIds, foundDists, foundRecords, searchOut, searchKept, searchDone, recordsOut, recordsKept, recordsDone}
+use Rattle.definition.specs.Outcome.{cleanedCall, lookupOut}
 
 -- the call with another beam
 abbrev pub withBeam : ℕ → SearchCall → SearchCall
@@ -29,6 +31,10 @@ withBeam beam c =
 pub search-beam-zero : (c : SearchCall) → c .beam ≡ 0 → searchOut c ≡ searchOut (withBeam 1 c)
 unfolding searchOut searchKept searchDone searchNumber searchNumberAt searchShort badBeam mostAnswers found foundIds foundDists answers searched
 search-beam-zero c e = ap (λ (b : ℕ). searchOut (withBeam b c)) e
+
+pub lookup-beam-zero : (c : SearchCall) → c .beam ≡ 0 → lookupOut c ≡ lookupOut (withBeam 1 c)
+unfolding lookupOut cleanedCall
+lookup-beam-zero c e = search-beam-zero (cleanedCall c) e
 
 pub records-beam-zero : (c : SearchCall) (records : List Candidate) → c .beam ≡ 0 → recordsOut c records ≡ recordsOut (withBeam 1 c) records
 unfolding recordsOut recordsKept recordsDone searchDone recordsNumber searchNumberAt searchShort badBeam mostAnswers

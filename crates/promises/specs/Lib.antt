@@ -8,6 +8,8 @@
 --   Searching           demand 3, second sentence, of every accepted search: what answers tell and exclude (Tells, in theory)
 --   Held                the same over what a caller holds after a search, with a run of records or not
 --   BeamZero, Harmless  beam 0 acts as 1; padding anywhere, repeats and own ids change nothing
+--   LookingUp           lookup: its number, a refusal, the search that it is, demand 3 over the rows as it reads them
+--   Fitting             fit: what 0 says, and what it says of a search and of a lookup
 --   Seeking             the program `seek`: what it prints, read back, tells and excludes the same; 10 and 11 never come from it
 --   Medoid              the medoid's score, and that the least wins
 --   Drawn               what is drawn is acceptable; rows are full; how soon a seed is found
@@ -20,8 +22,10 @@ pub mod Searching
 pub mod Held
 pub mod BeamZero
 pub mod Harmless
+pub mod LookingUp
 pub mod Seeking
 pub mod Rows
+pub mod Fitting
 pub mod Alike
 pub mod Calls
 pub mod Building

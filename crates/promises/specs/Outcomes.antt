@@ -1,16 +1,17 @@
 -- "Each public call's statement determines every returned field and all words of lent slices for every input. Two outcomes meeting one statement are equal."
--- For every public call, without exception. A statement fixes the outcome, field by field: so each that meets it is that one. The statement of distance
--- and of medoid, which are lent nothing to write, is a single equation.
+-- For every public call, without exception. A statement fixes the outcome, field by field: so each that meets it is that one. The statement of distance,
+-- of medoid and of fit, which are lent nothing to write, is a single equation.
 use Prim.Native.Nat.{ℕ}
 use mathlib.Core.Path.{_≡_, sym, _∙_}
 use mathlib.Core.List.{List}
 use Rattle.definition.specs.declared.Answer.{Answer}
 use Rattle.definition.specs.declared.Candidate.{Candidate}
-use Rattle.definition.specs.Refusals.{DistanceCall, BatchCall, OpenCall, CloseCall, BuildCall, MedoidCall, SearchCall, RowsCall, SeedsCall, DrawsCall}
+use Rattle.definition.specs.Refusals.{DistanceCall, BatchCall, OpenCall, CloseCall, BuildCall, MedoidCall, SearchCall, FitCall, RowsCall}
+use Rattle.definition.specs.Refusals.{SeedsCall, DrawsCall}
 use Rattle.definition.specs.Outcome.{distanceOut, medoidOut, BatchOut, BatchMeets, batchOut, OpenOut, OpenMeets, openOut, CloseOut, CloseMeets, closeOut}
 use Rattle.definition.specs.Outcome.{BuildOut, BuildMeets, buildOut}
 use Rattle.definition.specs.Outcome.{SearchOut, SearchMeets, searchOut, RecordsOut, RecordsMeets, recordsOut, DrawOut, DrawMeets, drawOut, FillOut, FillMeets}
-use Rattle.definition.specs.Outcome.{rowsOut, seedsOut, orderOut, pivotsOut}
+use Rattle.definition.specs.Outcome.{LookupMeets, lookupOut, fitOut, rowsOut, seedsOut, orderOut, pivotsOut}
 
 module _ {A : Type 0} where
   one : {x o p : A} → o ≡ x → p ≡ x → o ≡ p
@@ -21,6 +22,9 @@ distance-same c x y = one x y
 
 pub medoid-same : (c : MedoidCall) {o p : Answer} → o ≡ medoidOut c → p ≡ medoidOut c → o ≡ p
 medoid-same c x y = one x y
+
+pub fit-same : (c : FitCall) {o p : Answer} → o ≡ fitOut c → p ≡ fitOut c → o ≡ p
+fit-same c x y = one x y
 
 -- ---- what meets a statement is what the definition gives
 
@@ -38,6 +42,9 @@ build-is m = λ i. record { answer = m .answer-is i; wide = m .wide-is i; closed
 
 pub search-is : {c : SearchCall} {o : SearchOut} → SearchMeets c o → o ≡ searchOut c
 search-is m = λ i. record { answer = m .answer-is i; words = m .words-is i; floats = m .floats-is i; ids = m .ids-are i; dists = m .dists-are i }
+
+pub lookup-is : {c : SearchCall} {o : SearchOut} → LookupMeets c o → o ≡ lookupOut c
+lookup-is m = λ i. record { answer = m .answer-is i; words = m .words-is i; floats = m .floats-is i; ids = m .ids-are i; dists = m .dists-are i }
 
 pub records-is : {c : SearchCall} {rs : List Candidate} {o : RecordsOut} → RecordsMeets c rs o → o ≡ recordsOut c rs
 records-is m = λ i. record { plain = m .plain-is i; records = m .records-are i }
@@ -65,6 +72,9 @@ build-same c x y = one (build-is x) (build-is y)
 
 pub search-same : (c : SearchCall) {o p : SearchOut} → SearchMeets c o → SearchMeets c p → o ≡ p
 search-same c x y = one (search-is x) (search-is y)
+
+pub lookup-same : (c : SearchCall) {o p : SearchOut} → LookupMeets c o → LookupMeets c p → o ≡ p
+lookup-same c x y = one (lookup-is x) (lookup-is y)
 
 pub records-same : (c : SearchCall) (rs : List Candidate) {o p : RecordsOut} → RecordsMeets c rs o → RecordsMeets c rs p → o ≡ p
 records-same c rs x y = one (records-is x) (records-is y)

@@ -58,9 +58,6 @@ module _ (n : ℕ) (h : n ≤ limit) where
 pub count-in-unsigned : (x : Float) → IsWhole x → T (inUnsigned binary32 32 x)
 count-in-unsigned x p = subst (λ (z : Float). T (inUnsigned binary32 32 z)) (sym (p .is)) (in-unsigned (count x) (p .small))
 
-pub whole-injective : (a b : ℕ) → a ≤ limit → b ≤ limit → whole a ≡ whole b → a ≡ b
-whole-injective a b p q e = sym (count-whole a p) ∙ ap count e ∙ count-whole b q
-
 -- the literal 0.0 of code
 pub zero-whole : whole 0 ≡ ofBits binary32 0
 unfolding whole ofInt ofBits

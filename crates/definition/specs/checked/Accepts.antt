@@ -9,10 +9,11 @@ use Rattle.definition.specs.declared.Params.{Params}
 use Rattle.definition.specs.Floats.{nought}
 use Rattle.definition.specs.Refusals.{BatchCall, OpenCall, CloseCall, BuildCall, buildWords, buildFloats}
 use Rattle.definition.specs.Refusals.{distanceNumber, batchNumber, openNumber, closeNumber, buildNumber, medoidNumber, searchNumber, recordsNumber}
-use Rattle.definition.specs.Refusals.{rowsNumber, seedsNumber, orderNumber, pivotsNumber}
-use Rattle.definition.specs.Outcome.{openOut, batchOut, closeOut, buildOut}
+use Rattle.definition.specs.Refusals.{fitNumber, rowsNumber, seedsNumber, orderNumber, pivotsNumber}
+use Rattle.definition.specs.Outcome.{openOut, batchOut, closeOut, buildOut, cleanedCall}
 use Rattle.definition.specs.checked.Opened.{opened}
 use Rattle.definition.specs.checked.Samples.{line, lineRows, lineCall}
+use Rattle.definition.specs.checked.Lookups.{strayRows, tableCall, enough}
 
 -- ---- the calls. Degree 2, so slack 3; beam 2, alpha 1.2, one seed for each node
 
@@ -111,6 +112,15 @@ search-passes = refl
 pub records-passes : recordsNumber (lineCall line 38 2 2) (replicate 2 (record { id = 7; distance = nought })) ≡ 0
 unfolding opened lineCall lineRows line
 records-passes = refl
+
+-- a lookup with stray words in its table
+pub lookup-passes : searchNumber (cleanedCall (tableCall strayRows enough)) ≡ 0
+unfolding opened tableCall strayRows enough line
+lookup-passes = refl
+
+pub fit-passes : fitNumber (record { n = 4; degree = 2; table = lineRows }) ≡ 0
+unfolding opened lineRows
+fit-passes = refl
 
 pub rows-passes : rowsNumber (record { n = 4; degree = 2; table = replicate 8 7; state = 0 }) ≡ 0
 unfolding opened

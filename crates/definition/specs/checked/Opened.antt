@@ -25,6 +25,7 @@ unfolding add lt ofInt ofBits mul div
     Floats.nought Floats.one Floats.onePointTwo Floats.four Floats.largest Floats.larger Floats.smaller Floats.times Floats.divided Floats.above
     Metric.gap Metric.squared Metric.summed Metric.metric Metric.vector Metric.fromQuery Metric.between Metric.whole
     Tables.pad Tables.row Tables.ids Tables.padded Tables.tableOf Tables.onlyPad Tables.idsFirst Tables.buildRow Tables.buildRule Tables.searchRule
+    Tables.cleaned
     Slack.slackFactor Slack.ceil Slack.slackByFloats Slack.slack
     Beam.nearer Beam.worse Beam.insert Beam.worst Beam.best Beam.withoutBest Beam.beatsWorst Beam.insertCapped
     Greedy.visitedIds Greedy.begin Greedy.admitted Greedy.meet Greedy.skipped Greedy.look Greedy.expand Greedy.popped Greedy.step Greedy.filled
@@ -42,13 +43,13 @@ unfolding add lt ofInt ofBits mul div
     Refusals.badStart Refusals.badExtra Refusals.goodGroup Refusals.badSeeds Refusals.badLength Refusals.badTable Refusals.badSearched
     Refusals.badNodes Refusals.badOrder Refusals.buildWords Refusals.buildFloats Refusals.searchWords Refusals.searchFloats Refusals.mostAnswers
     Refusals.short Refusals.badPivots Refusals.distanceNumber Refusals.batchNumber Refusals.openNumber Refusals.closeNumber Refusals.buildNumber
-    Refusals.medoidNumber Refusals.searchShort Refusals.searchNumberAt Refusals.searchNumber Refusals.recordsNumber Refusals.rowsNumber
-    Refusals.seedsNumber Refusals.orderNumber Refusals.pivotsNumber
+    Refusals.medoidNumber Refusals.searchShort Refusals.searchNumberAt Refusals.searchNumber Refusals.recordsNumber Refusals.fitNumber
+    Refusals.rowsNumber Refusals.seedsNumber Refusals.orderNumber Refusals.pivotsNumber
     Outcome.answer Outcome.refused Outcome.done Outcome.byNumber Outcome.distanceOut Outcome.settingOf Outcome.batchKept Outcome.batchDone
     Outcome.batchOut Outcome.openKept Outcome.openDone Outcome.openOut Outcome.closeKept Outcome.closeDone Outcome.closeOut Outcome.buildKept
     Outcome.builtWide Outcome.buildDone Outcome.buildOut Outcome.medoidOut Outcome.found Outcome.foundIds Outcome.foundDists Outcome.searchKept
-    Outcome.searchDone Outcome.searchOut Outcome.foundRecords Outcome.recordsKept Outcome.recordsDone Outcome.recordsOut Outcome.drawOut
-    Outcome.fillKept Outcome.fillDone Outcome.rowsOut Outcome.seedsOut Outcome.orderOut Outcome.pivotsOut
+    Outcome.searchDone Outcome.searchOut Outcome.foundRecords Outcome.recordsKept Outcome.recordsDone Outcome.recordsOut Outcome.cleanedCall
+    Outcome.lookupOut Outcome.fitOut Outcome.drawOut Outcome.fillKept Outcome.fillDone Outcome.rowsOut Outcome.seedsOut Outcome.orderOut Outcome.pivotsOut
     Seek.splits Seek.ended Seek.wordsFrom Seek.isDigit Seek.isDecimal Seek.decimalFrom Seek.junk Seek.isDash Seek.value Seek.values Seek.isNumber
     Seek.isSample Seek.isRowWord Seek.partAt Seek.theN Seek.theDim Seek.theDegree Seek.theVectors Seek.theRows Seek.theQuery Seek.smallEnough
     Seek.shaped Seek.filled Seek.wellFormed Seek.seekCall Seek.mostInput Seek.malformed Seek.seekNumber Seek.digits Seek.decimal Seek.printRefused
