@@ -1,25 +1,24 @@
 -- A batch from its marks and stamps at 0 to the merged table: the fresh rows are made and then merged, each within the stated room.
-use Prim.Native.Nat.{ℕ, _+_, _-_, _*_, _≤_, _<_}
+use Prim.Native.Nat.{ℕ, _+_, _≤_, _<_}
 use native.Mathlib.Omega.{arith}
 use mathlib.Core.Path.{_≡_, sym, ap, _∙_}
 use mathlib.Core.List.{List}
-use lib.Ieee.{Float}
 use lib.ListN.{length, getD, replicate}
 use Rattle.definition.specs.Batch.{batch, merged}
 use Rattle.laws.specs.Parts.{part, put, Within, within-at, within-wider, within-trans}
-use Rattle.scratch.specs.Layout.{stampsAt, stampsEnd, linksEnd, factorsAt, factorsEnd, freshRowAt, freshEnd, floatsEnd}
+use Rattle.scratch.specs.Layout.{stampsAt, poolDistsAt, mostFactors, linksEnd, freshRowAt, freshEnd, floatsEnd}
 use Rattle.scratch.specs.Lent.{Lent, lent}
 use Rattle.scratch.specs.Zeroed.{zeroed-within, zeroed-at}
 use Rattle.given.specs.Given.{Given, setting, WalkLimits, Wide}
 use Rattle.given.specs.Listing.{Listing, Listable}
-use Rattle.given.specs.Held.{Held, held, Roomy}
+use Rattle.given.specs.Held.{Held, held}
 use Rattle.batch_fresh.specs.Made.{Between, FreshRows}
 use Rattle.batch_fresh.specs.Once.{fresh-once, fresh-below, between-start}
 use Rattle.batch_merge.specs.Says.{MergeReady, Merged}
 use Rattle.batch.specs.Says.{BatchReady, BatchRun}
 
--- `a` and `e` are where the code found that the stamps begin and end
-module _ {g : Given} {l : Listing} {h : Held} (r : BatchReady g l h) {a e : ℕ} (at : a ≡ stampsAt (g .n)) (end : e ≡ stampsEnd (g .n))
+-- `a` and `e` are where the code found that the stamps begin, and the distances behind them
+module _ {g : Given} {l : Listing} {h : Held} (r : BatchReady g l h) {a e : ℕ} (at : a ≡ stampsAt (g .n)) (end : e ≡ poolDistsAt (g .n))
     (ys zs : List ℕ) (ey : ys ≡ replicate (length (part 0 (g .n) (h .lent .words))) 0)
     (ez : zs ≡ replicate (length (part a e (put 0 (g .n) (h .lent .words) ys))) 0) where
   -- the marks of the walks at 0; then the stamps too
@@ -57,19 +56,22 @@ module _ {g : Given} {l : Listing} {h : Held} (r : BatchReady g l h) {a e : ℕ}
   stamps : (i : ℕ) → i < g .n → getD blank (stampsAt (g .n) + i) 0 ≡ 0
   stamps i h = ap (λ (k : ℕ). getD blank (k + i) 0) (sym at) ∙ zeroed-at a e marked (omega arith) room-two ez i (omega arith)
 
-  roomy : Roomy (g .n) (lent blank (h .lent .floats))
-  roomy = let w = r .roomy .words in let s = both .size in record { words = omega arith; floats = r .roomy .floats }
+  word-room : freshEnd (g .n) ≤ length blank
+  word-room = let w = r .roomy .words in let s = both .size in omega arith
 
-  pub fresh-asks : WalkLimits g × (Wide g (h .wide) × (Listable g l × Between g 1 0 (lent blank (h .lent .floats))))
-  fresh-asks = (r .limits, (r .table, (r .listable, between-start g (lent blank (h .lent .floats)) (r .limits) roomy marks stamps)))
+  float-room : mostFactors ≤ length (h .lent .floats)
+  float-room = let f = r .roomy .floats in omega arith
+
+  pub fresh-asks : WalkLimits g × (Wide g (h .wide) × (Listable g l × (Between g 1 0 blank × (mostFactors ≤ length (h .lent .floats)))))
+  fresh-asks = (r .limits, (r .table, (r .listable, (between-start g blank (r .limits) word-room marks stamps, float-room))))
 
   -- the fresh rows are made
   module _ {made : Lent} (f : FreshRows g (h .wide) l (lent blank (h .lent .floats)) made) where
     pub merge-asks : MergeReady g (l .nodes) (held (h .wide) (made .words) (made .floats))
     merge-asks =
         let limits = r .limits .limits in
-        let w = roomy .words in
-        let v = r .roomy .floats in
+        let w = word-room in
+        let v = float-room in
         let s = f .made .words-kept .size in
         let t = f .made .floats-kept .size in
         record {
@@ -102,7 +104,7 @@ module _ {g : Given} {l : Listing} {h : Held} (r : BatchReady g l h) {a e : ℕ}
                 (within-wider 0 (linksEnd (g .n)) (made .words) (after .lent .words) (m .words-within) 0 w (omega arith) (omega arith)));
             floats =
                 within-trans 0 v (h .lent .floats) (made .floats) (after .lent .floats)
-                (within-wider 0 (factorsEnd (g .n)) (h .lent .floats) (made .floats) (f .made .floats-kept) 0 v (omega arith) (omega arith))
-                (within-wider (factorsAt (g .n)) (factorsEnd (g .n)) (made .floats) (after .lent .floats) (m .floats-within) 0 v (omega arith) (omega arith));
+                (within-wider 0 mostFactors (h .lent .floats) (made .floats) (f .made .floats-kept) 0 v (omega arith) (omega arith))
+                (within-wider 0 mostFactors (made .floats) (after .lent .floats) (m .floats-within) 0 v (omega arith) (omega arith));
           };
         }

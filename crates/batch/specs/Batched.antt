@@ -1,19 +1,13 @@
 -- The statement of a batch, from its number, its run and the room that was cleared.
-use Prim.Native.Nat.{ℕ, zero, suc, _+_, _-_, _*_, _≤_, _<_}
-use native.Mathlib.Nat.{suc-mul}
+use Prim.Native.Nat.{ℕ, _≤_}
 use native.Mathlib.Omega.{arith}
-use mathlib.Core.Path.{_≡_, refl, sym, ap, _∙_, subst}
-use mathlib.Core.Bool.{Bool, true, false, not, _&&_}
+use mathlib.Core.Path.{_≡_, sym, ap, _∙_}
 use mathlib.Core.List.{List}
-use borrow.Author.Tests.{ltb-true, ltb-false}
-use lib.Dec.{ltb, eqb}
 use lib.Ieee.{Float}
-use lib.ListN.{length, getD, take, drop, length-take, length-drop}
-use lib.Seq.{getD-take, getD-drop}
+use lib.ListN.{length, getD}
 use Rattle.definition.specs.declared.Answer.{Answer}
-use Rattle.definition.specs.Lists.{each, distinct, groups}
 use Rattle.definition.specs.Slack.{slack}
-use Rattle.definition.specs.Refusals.{BatchCall, batchNumber, goodGroup, badAlpha}
+use Rattle.definition.specs.Refusals.{BatchCall, batchNumber}
 use Rattle.definition.specs.Outcome.{refused, done, BatchOut, batchKept, batchDone, batchOut, BatchMeets}
 use Rattle.laws.specs.Members.{mem-at}
 use Rattle.accepted.specs.Build.{batch-accepted}

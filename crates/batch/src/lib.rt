@@ -27,7 +27,7 @@ pub fn run_batch(
 {
     let n = g.n;
     let a = scratch::stamps_at(n);
-    let e = scratch::stamps_end(n);
+    let e = scratch::pool_dists_at(n);
     scratch::clear_words(&mut words[0..n]);
     scratch::clear_words(&mut words[a..e]);
     batch_fresh::fresh_rows(g, vectors, start, nodes, seeds, wide, words, floats);

@@ -9,8 +9,7 @@ use Rattle.definition.specs.Batch.{Setting, mergedIds}
 use Rattle.definition.specs.Slack.{slack}
 use Rattle.laws.specs.Listed.{freshWidth}
 use Rattle.laws.specs.Rising.{none}
-use Rattle.scratch.specs.Layout.{freshAt, freshRowAt, seatsAt}
-use Rattle.given.specs.Given.{widest}
+use Rattle.scratch.specs.Layout.{widest, freshAt, freshRowAt, seatsAt}
 use Rattle.given.specs.Fresh.{Merging, entriesOf, freshRow, listedIn}
 use Rattle.batch_ids.specs.Grown.{grown, wanted}
 use Rattle.batch_ids.specs.Says.{Rises, Grew}

@@ -12,9 +12,7 @@ use Rattle.definition.specs.Tables.{ids, row}
 use Rattle.definition.specs.Batch.{Setting, base, wideRow, wideIds}
 use Rattle.definition.specs.Slack.{slack}
 use Rattle.laws.specs.Listed.{freshWidth, listedAt}
-use Rattle.laws.specs.Parts.{part}
-use Rattle.scratch.specs.Layout.{freshAt, freshRowAt}
-use Rattle.given.specs.Given.{widest}
+use Rattle.scratch.specs.Layout.{widest, freshAt, freshRowAt}
 use Rattle.given.specs.Fresh.{Merging, freshRow, listedIn}
 use Rattle.batch_chains.specs.Last.{seat}
 

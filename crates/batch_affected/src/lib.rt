@@ -1,11 +1,10 @@
 // Part 6, the merge: the ids of one affected node.
 ghost use mathlib.Core.Path.{_≡_};
-ghost use Prim.Native.Nat.{ℕ, _+_, _-_, _*_, _≤_, _<_};
+ghost use Prim.Native.Nat.{_+_, _-_, _*_, _≤_, _<_};
 ghost use lib.ListN.{length};
 ghost use Rattle.definition.specs.Tables.{row};
 ghost use Rattle.laws.specs.Listed.{freshWidth};
-ghost use Rattle.scratch.specs.Layout.{freshAt};
-ghost use Rattle.given.specs.Given.{widest};
+ghost use Rattle.scratch.specs.Layout.{widest, freshAt};
 ghost use Rattle.given.specs.Fresh.{merging, freshRow};
 ghost use Rattle.batch_affected.specs.Base.{baseWords};
 ghost use Rattle.batch_affected.specs.Says.{mergedMost, Ready, Gathered};

@@ -1,6 +1,6 @@
 -- Along one chain, from the last entry that names the node to the first: the rows still to be walked, put in after those in the list, give all of them.
 -- The next entry of a chain is of an earlier row, since no row names an id twice: so there is room for one node of each row.
-use Prim.Native.Nat.{ℕ, zero, suc, _+_, _-_, _*_, _/_, _≤_, _<_}
+use Prim.Native.Nat.{ℕ, zero, suc, _+_, _-_, _/_, _≤_, _<_}
 use native.Mathlib.Omega.{arith}
 use mathlib.Core.Path.{_≡_, refl, sym, ap, _∙_}
 use mathlib.Core.List.{List, [], _∷_, map}

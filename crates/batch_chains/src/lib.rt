@@ -1,7 +1,7 @@
 // Part 6: which listed nodes name an id. One chain for each id runs through the entries of the fresh rows, from the last to the first:
 // heads[id] and links[entry] hold one more than the entry that comes next, 0 at the end. No counting, no offsets, each entry is touched once.
 ghost use mathlib.Core.Path.{_≡_};
-ghost use Prim.Native.Nat.{ℕ, _+_, _-_, _*_, _≤_, _<_};
+ghost use Prim.Native.Nat.{ℕ, _+_, _-_, _≤_, _<_};
 ghost use lib.ListN.{length, getD};
 ghost use Rattle.laws.specs.Words.{Below};
 ghost use Rattle.scratch.specs.Layout.{linksAt, linksEnd, freshAt};

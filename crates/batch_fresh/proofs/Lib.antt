@@ -1,5 +1,4 @@
 -- The laws behind the fresh rows.
-pub mod Inner
+pub mod Pruning
 pub mod Making
 pub mod Listing
-pub mod Pruning

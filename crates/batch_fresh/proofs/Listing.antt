@@ -14,11 +14,11 @@ use Rattle.laws.specs.Listed.{freshWidth, listedAt}
 use Rattle.laws.specs.Tables.{ids-of}
 use Rattle.laws.specs.Parts.{part, part-at, within-none, within-wider, within-trans}
 use Rattle.laws.specs.Words.{Below}
-use Rattle.scratch.specs.Layout.{freshAt, freshRowAt, factorsEnd}
+use Rattle.scratch.specs.Layout.{mostFactors, freshAt, freshRowAt}
 use Rattle.scratch.specs.Lent.{Lent}
 use Rattle.given.specs.Given.{Given, setting}
 use Rattle.given.specs.Listing.{Listing, Listable}
-use Rattle.given.specs.Fresh.{merging, freshRow, listedIn}
+use Rattle.given.specs.Fresh.{freshRow}
 use Rattle.batch_fresh.specs.Made.{Fit, Insertion, insertion, Insertable, inserted, freshFor, RowMade, RowsMade, FreshRows}
 
 ids-padded : (width : ℕ) (xs : List ℕ) → ((x : ℕ) → Mem x xs → x ≡ pad → ⊥) → ids (padded width xs) ≡ xs
@@ -56,7 +56,7 @@ module _ (g : Given) (wide : List ℕ) (l : Listing) (before : Lent) where
         rows = λ q h. absurd (omega arith);
         fits = λ q h. absurd (omega arith);
         words-kept = within-none 0 (freshRowAt (g .n) 0) (before .words);
-        floats-kept = within-none 0 (factorsEnd (g .n)) (before .floats);
+        floats-kept = within-none 0 mostFactors (before .floats);
       }
 
 module _ {g : Given} {wide : List ℕ} {l : Listing} {before at : Lent} {k : ℕ} (m : RowsMade g wide l before at k) where
@@ -82,7 +82,7 @@ module _ {g : Given} {wide : List ℕ} {l : Listing} {before at : Lent} {k : ℕ
               within-trans 0 end (before .words) (at .words) (after .words)
               (within-wider 0 (freshRowAt (g .n) k) (before .words) (at .words) (m .words-kept) 0 end (omega arith) (omega arith))
               (within-wider 0 (freshRowAt (g .n) k + freshWidth) (at .words) (after .words) (r .words-kept) 0 end (omega arith) (omega arith));
-          floats-kept = within-trans 0 (factorsEnd (g .n)) (before .floats) (at .floats) (after .floats) (m .floats-kept) (r .floats-kept);
+          floats-kept = within-trans 0 mostFactors (before .floats) (at .floats) (after .floats) (m .floats-kept) (r .floats-kept);
         }
 
   lent-group : lentTo g l k .seeds ≡ inserted g l k .seeds

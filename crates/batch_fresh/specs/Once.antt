@@ -1,4 +1,4 @@
--- Entry by entry: no id stands twice in a fresh row, and each is an id below n or padding. And the scratch as a batch begins with it.
+-- Entry by entry: no id stands twice in a fresh row, and each is an id below n or padding. And the words as a batch begins with them.
 use mathlib.Core.Path.{_≡_, refl, sym, ap, _∙_, subst}
 use mathlib.Core.Bool.{Bool, true, false}
 use mathlib.Core.List.{List, List·Memᴰ as Mem}
@@ -14,13 +14,13 @@ use Rattle.laws.specs.Apart.{Apart, nobody, another}
 use Rattle.laws.specs.Parts.{part-at}
 use Rattle.laws.specs.Tables.{padded-id, padded-pad}
 use Rattle.laws.specs.Words.{padding}
-use Rattle.scratch.specs.Layout.{stampsAt, freshAt, freshRowAt}
+use Rattle.scratch.specs.Layout.{stampsAt, freshAt, freshRowAt, freshEnd}
 use Rattle.scratch.specs.Lent.{Lent}
 use Rattle.given.specs.Given.{Given, WalkLimits}
 use Rattle.given.specs.Listing.{Listing}
-use Rattle.given.specs.Held.{Roomy}
 use Rattle.given.specs.Fresh.{entry}
-use Rattle.batch_fresh.specs.Made.{Between, Fit, RowsMade, freshFor, inserted}
+use Rattle.greedy.specs.Scratch.{walk-end-all}
+use Rattle.batch_fresh.specs.Made.{planOf, Between, Fit, RowsMade, freshFor, inserted}
 
 apart-at : {xs : List ℕ} → Apart xs → (i j : ℕ) → i < j → j < length xs → getD xs i 0 ≡ getD xs j 0 → ⊥
 apart-at nobody i j h l e = absurd (omega arith)
@@ -78,16 +78,14 @@ module _ {g : Given} {wide : List ℕ} {l : Listing} {before after : Lent} {k : 
       (padded-below (m .fits s q) (a - freshWidth * s) (omega arith) (λ z. p (sym e ∙ z)) (ltb (a - freshWidth * s) (length (rowOf s))) refl)
 
 -- ---- marks and stamps are 0
-pub between-start : (g : Given) (at : Lent) → WalkLimits g → Roomy (g .n) at → ((i : ℕ) → i < g .n → getD (at .words) i 0 ≡ 0)
-    → ((i : ℕ) → i < g .n → getD (at .words) (stampsAt (g .n) + i) 0 ≡ 0) → Between g 1 0 at
-between-start g at limits roomy marks stamps =
-    let w = roomy .words in
-    let f = roomy .floats in
+pub between-start : (g : Given) (words : List ℕ) → WalkLimits g → freshEnd (g .n) ≤ length words → ((i : ℕ) → i < g .n → getD words i 0 ≡ 0)
+    → ((i : ℕ) → i < g .n → getD words (stampsAt (g .n) + i) 0 ≡ 0) → Between g 1 0 words
+between-start g words limits room marks stamps =
     record {
       room = record {
-        space = record { nodes = limits .limits .nodes; word-room = omega arith; float-room = omega arith; beam-le = limits .beam-few };
+        space = record { nodes = limits .limits .nodes; room = omega (arith, walk-end-all (planOf g) refl); beam-le = limits .beam-few };
         marks = λ i h. let k = marks i h in omega arith;
       };
-      roomy = roomy;
+      word-room = room;
       stamps = λ i h. let k = stamps i h in omega arith;
     }

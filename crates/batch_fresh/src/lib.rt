@@ -3,17 +3,19 @@ use batch_pool::Collected;
 use batch_pool::collect_pool;
 use given::Ground;
 use greedy::Plan;
-use prune::write_pruned;
-use prune_pool::choose;
-ghost use mathlib.Core.Path.{_≡_};
-ghost use Prim.Native.Nat.{_+_, _*_, _≤_, _<_};
+use prune::prune_neighbors;
+use table::put_row;
+ghost use Prim.Native.Nat.{_+_, _≤_};
+ghost use lib.ListN.{length};
+ghost use Rattle.scratch.specs.Layout.{mostFactors};
 ghost use Rattle.scratch.specs.Lent.{lent};
 ghost use Rattle.given.specs.Given.{given, WalkLimits, Wide};
 ghost use Rattle.given.specs.Listing.{listing, Listable};
 ghost use Rattle.batch_fresh.specs.Made.{Between, insertion, Insertable, NodePool, RowMade, FreshRows};
 ghost use Rattle.batch_fresh.specs.Says.{Prunable, prunedFor, Fresh};
 
-// The fresh row at `place`, pruned from the pool of a node, which has len ids.
+// The fresh row at `place`, pruned from the pool of a node, which has len ids. The words are lent for the pool while the row is made, so it is made beside them
+// and put down after. Pruning is called here as it is in crate prune_fit, so that its arrays stand in no frame from which it is called again.
 fn prune_fresh(
     g: Ground,
     vectors: &[u8],
@@ -24,36 +26,28 @@ fn prune_fresh(
     floats: &mut [f32],
 )
     requires { ⌜ Prunable (given g (now vectors)) place len (lent (now words) (now floats)) ⌝ }
-    ensures { λ _. ⌜ Fresh (g .n) place len (prunedFor (given g (now (vectors .entry))) node len (lent (now (words .entry)) (now (floats .entry))))
+    ensures { λ _. ⌜ Fresh (g .n) place (prunedFor (given g (now (vectors .entry))) node len (now (words .entry)))
         (lent (now (words .entry)) (now (floats .entry))) (lent (now (words .exit)) (now (floats .exit))) ⌝ }
 {
-    let mut ci = [0u32; scratch::FACTORS];
-    let mut cd = [0.0f32; scratch::FACTORS];
+    let mut row = [0u32; scratch::FRESH_WIDTH];
     let pool = scratch::pool_at(g.n);
     let pool_end = pool + len;
     let dists = scratch::pool_dists_at(g.n);
     let dists_end = dists + len;
-    let count = choose(
-        &mut words[pool..pool_end],
-        &mut floats[dists..dists_end],
-        node,
-        &mut ci,
-        &mut cd,
-    );
-    let row = scratch::fresh_row_at(g.n, place);
-    let row_end = row + scratch::FRESH_WIDTH;
-    let factors = scratch::factors_at(g.n);
-    let factors_end = factors + count;
-    write_pruned(
+    prune_neighbors(
         vectors,
         g.dim,
-        &ci[0..count],
-        &cd[0..count],
-        &mut floats[factors..factors_end],
-        &mut words[row..row_end],
+        &words[pool..pool_end],
+        &words[dists..dists_end],
+        node,
+        &mut floats[0..scratch::FACTORS],
+        &mut row,
         g.params.degree,
         g.params.alpha,
     );
+    let at = scratch::fresh_row_at(g.n, place);
+    let end = at + scratch::FRESH_WIDTH;
+    put_row(&mut words[at..end], 0, scratch::FRESH_WIDTH, &row);
 }
 
 // The pool of one listed node, the p-th: its vector is the query, and its stamp is one more than p.
@@ -67,14 +61,13 @@ fn node_pool(
     seeds: &[u32],
     wide: &[u32],
     words: &mut [u32],
-    floats: &mut [f32],
 ) -> Collected
     requires { ⌜ WalkLimits (given g (now vectors)) ⌝ }
     requires { ⌜ Wide (given g (now vectors)) (now wide) ⌝ }
-    requires { ⌜ Between (given g (now vectors)) epoch p (lent (now words) (now floats)) ⌝ }
+    requires { ⌜ Between (given g (now vectors)) epoch p (now words) ⌝ }
     requires { ⌜ Insertable (given g (now vectors)) (insertion p node start (now seeds)) ⌝ }
     ensures { λ r. ⌜ NodePool (given g (now (vectors .entry))) (now (wide .entry)) (insertion p node start (now (seeds .entry)))
-        (lent (now (words .entry)) (now (floats .entry))) (lent (now (words .exit)) (now (floats .exit))) r ⌝ }
+        (now (words .entry)) (now (words .exit)) r ⌝ }
 {
     let dim = g.dim;
     let at = node * dim;
@@ -84,11 +77,11 @@ fn node_pool(
         dim,
         width: g.slack,
         beam: g.params.beam,
+        keep: true,
     };
     let stamp = (p + 1) as u32;
     collect_pool(
         words,
-        floats,
         vectors,
         &vectors[at..end],
         wide,
@@ -116,14 +109,15 @@ fn fresh_row(
 ) -> u32
     requires { ⌜ WalkLimits (given g (now vectors)) ⌝ }
     requires { ⌜ Wide (given g (now vectors)) (now wide) ⌝ }
-    requires { ⌜ Between (given g (now vectors)) epoch p (lent (now words) (now floats)) ⌝ }
+    requires { ⌜ Between (given g (now vectors)) epoch p (now words) ⌝ }
+    requires { ⌜ mostFactors ≤ length (now floats) ⌝ }
     requires { ⌜ Insertable (given g (now vectors)) (insertion p node start (now seeds)) ⌝ }
     ensures { λ r. ⌜ RowMade (given g (now (vectors .entry))) (now (wide .entry)) (insertion p node start (now (seeds .entry)))
         (lent (now (words .entry)) (now (floats .entry))) (lent (now (words .exit)) (now (floats .exit))) ⌝ }
-    ensures { λ r. ⌜ Between (given g (now (vectors .entry))) r (p + 1) (lent (now (words .exit)) (now (floats .exit))) ⌝ }
+    ensures { λ r. ⌜ Between (given g (now (vectors .entry))) r (p + 1) (now (words .exit)) ⌝ }
 {
     let u = node as usize;
-    let c = node_pool(g, vectors, epoch, p, u, start, seeds, wide, words, floats);
+    let c = node_pool(g, vectors, epoch, p, u, start, seeds, wide, words);
     prune_fresh(g, vectors, p, node, c.len, words, floats);
     c.epoch
 }
@@ -142,7 +136,8 @@ pub fn fresh_rows(
     requires { ⌜ WalkLimits (given g (now vectors)) ⌝ }
     requires { ⌜ Wide (given g (now vectors)) (now wide) ⌝ }
     requires { ⌜ Listable (given g (now vectors)) (listing start (now nodes) (now seeds)) ⌝ }
-    requires { ⌜ Between (given g (now vectors)) 1 0 (lent (now words) (now floats)) ⌝ }
+    requires { ⌜ Between (given g (now vectors)) 1 0 (now words) ⌝ }
+    requires { ⌜ mostFactors ≤ length (now floats) ⌝ }
     ensures { λ _. ⌜ FreshRows (given g (now (vectors .entry))) (now (wide .entry)) (listing start (now (nodes .entry)) (now (seeds .entry)))
         (lent (now (words .entry)) (now (floats .entry))) (lent (now (words .exit)) (now (floats .exit))) ⌝ }
 {

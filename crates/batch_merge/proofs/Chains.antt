@@ -1,6 +1,6 @@
 -- Chains and seats made in the words, from heads and seats at 0; and what they say of a node. The three steps write below the fresh rows alone, so the
 -- entries read as they did, and the seats lie apart from heads and links.
-use Prim.Native.Nat.{ℕ, _+_, _-_, _*_, _≤_, _<_}
+use Prim.Native.Nat.{ℕ, _+_, _-_, _≤_, _<_}
 use native.Mathlib.Omega.{arith}
 use mathlib.Core.Path.{_≡_, refl, sym, ap, _∙_, subst}
 use mathlib.Core.Bool.{Bool, true, not, _||_}
@@ -15,11 +15,10 @@ use Rattle.laws.specs.Parts.{part, put, Within, part-length, part-at, put-withi
 use Rattle.laws.specs.Words.{Below}
 use Rattle.scratch.specs.Layout.{seatsAt, linksAt, linksEnd, freshAt}
 use Rattle.scratch.specs.Zeroed.{zeroed-within, zeroed-at}
-use Rattle.given.specs.Fresh.{Merging, merging, entry, entriesOf, listedIn}
+use Rattle.given.specs.Fresh.{Merging, entry, entriesOf, listedIn}
 use Rattle.batch_chains.specs.Last.{last, last-same, seat}
 use Rattle.batch_chains.specs.Says.{Laid, Chained, Linked, Once, Seated}
 use Rattle.batch_affected.specs.Affected.{affected-is}
-use Rattle.batch_affected.specs.Says.{Ready}
 use Rattle.batch_merge.specs.Says.{Unlinked, Gatherable, AllLinked}
 
 -- lists that agree from e on

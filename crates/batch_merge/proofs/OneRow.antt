@@ -4,11 +4,10 @@ use native.Mathlib.Omega.{arith}
 use mathlib.Core.Path.{_≡_, sym, ap, _∙_, subst}
 use mathlib.Core.List.{List, List·Memᴰ as Mem}
 use lib.ListN.{length, take}
-use lib.Ieee.{Float}
 use Rattle.definition.specs.Batch.{mergedIds, fitted}
 use Rattle.definition.specs.Outcome.{settingOf}
-use Rattle.scratch.specs.Layout.{mostFactors}
-use Rattle.given.specs.Given.{Given, setting, widest, degree-slack}
+use Rattle.scratch.specs.Layout.{widest, mostFactors}
+use Rattle.given.specs.Given.{Given, setting, degree-slack}
 use Rattle.given.specs.Fresh.{Merging, merging, listedIn}
 use Rattle.prune_pool.specs.Says.{Distinct}
 use Rattle.prune_pool.specs.Free.{asc-distinct}
@@ -57,7 +56,7 @@ module _ {g : Given} {nodes words wide : List ℕ} {i : ℕ} (r : RowReady g (me
     unfolding settingOf
     apart = subst (λ (k : ℕ). Distinct (take k list)) (sym count-is) (asc-distinct (gathered .is (setting g) (r .limits .width-is) .rises .asc))
 
-    pub fit-asks : (dists : List Float) (size : ℕ) → length list ≡ mergedMost → length dists ≡ mergedMost → mostFactors ≤ size
+    pub fit-asks : (dists : List ℕ) (size : ℕ) → length list ≡ mergedMost → length dists ≡ mergedMost → mostFactors ≤ size
         → Fittable g node (g .width) got × ((length (take (count - 0) dists) ≡ length got) × (mostFactors ≤ size) × (node * g .width + g .width ≤ length wide))
     fit-asks dists size sl sd room =
         let most = gathered .most in

@@ -7,7 +7,7 @@ use Rattle.definition.specs.Tables.{row}
 use Rattle.definition.specs.Batch.{mergedIds, fitted, merged}
 use Rattle.laws.specs.Parts.{Within}
 use Rattle.laws.specs.Words.{Below, Searchable}
-use Rattle.scratch.specs.Layout.{linksEnd, freshEnd, factorsAt, factorsEnd}
+use Rattle.scratch.specs.Layout.{linksEnd, freshEnd, mostFactors}
 use Rattle.given.specs.Given.{Given, setting, Limits, Wide}
 use Rattle.given.specs.Held.{Held}
 use Rattle.given.specs.Fresh.{Merging, merging, entriesOf, listedIn}
@@ -55,10 +55,10 @@ pub record MergeReady (g : Given) (nodes : List ℕ) (h : Held) : Type 0 where
   pub limits : Limits g
   pub unlinked : Unlinked (merging (g .n) nodes (h .lent .words))
   pub table : Wide g (h .wide)
-  pub room : factorsEnd (g .n) ≤ length (h .lent .floats)
+  pub room : mostFactors ≤ length (h .lent .floats)
 
 -- the wide table is the definition's; fresh rows and all else outside the merge's own room stay
 pub record Merged (g : Given) (nodes : List ℕ) (before after : Held) : Type 0 where
   pub wide-is : after .wide ≡ merged (setting g) (before .wide) (listedIn (merging (g .n) nodes (before .lent .words)))
   pub words-within : Within 0 (linksEnd (g .n)) (before .lent .words) (after .lent .words)
-  pub floats-within : Within (factorsAt (g .n)) (factorsEnd (g .n)) (before .lent .floats) (after .lent .floats)
+  pub floats-within : Within 0 mostFactors (before .lent .floats) (after .lent .floats)

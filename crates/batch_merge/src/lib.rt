@@ -1,6 +1,6 @@
 // Part 6, the merge of a batch: chains and seats are made in the scratch, and then each affected row is written anew, in place.
 ghost use mathlib.Core.Path.{_≡_};
-ghost use Prim.Native.Nat.{ℕ, _+_, _*_, _≤_, _<_};
+ghost use Prim.Native.Nat.{_+_, _*_, _≤_, _<_};
 ghost use lib.ListN.{length};
 ghost use Rattle.definition.specs.Batch.{affected, merged};
 ghost use Rattle.scratch.specs.Layout.{mostFactors};
@@ -51,7 +51,7 @@ fn merge_row(
         i (now (wide .entry)) (now (wide .exit)) ⌝ }
 {
     let mut ids = [0u32; batch_affected::MERGED];
-    let mut dists = [0.0f32; batch_affected::MERGED];
+    let mut dists = [0u32; batch_affected::MERGED];
     let node = table::word_of(i);
     let count = batch_affected::gather_node(words, wide, g.n, nodes, node, g.slack, &mut ids);
     prune_fit::fit_row(
@@ -60,7 +60,7 @@ fn merge_row(
         node,
         g.slack,
         wide,
-        &mut ids[0..count],
+        &ids[0..count],
         &mut dists[0..count],
         factors,
     );
@@ -107,7 +107,12 @@ pub fn merge(
         (held (now (wide .exit)) (now (words .exit)) (now (floats .exit))) ⌝ }
 {
     link(words, g.n, nodes);
-    let a = scratch::factors_at(g.n);
-    let e = scratch::factors_end(g.n);
-    merge_rows(g, vectors, nodes, wide, words, &mut floats[a..e]);
+    merge_rows(
+        g,
+        vectors,
+        nodes,
+        wide,
+        words,
+        &mut floats[0..scratch::FACTORS],
+    );
 }

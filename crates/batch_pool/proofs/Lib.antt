@@ -1,6 +1,6 @@
 -- The laws behind the pool's functions.
 pub mod Adding
-pub mod Lending
 pub mod Rows
+pub mod Lending
 pub mod Visits
 pub mod Growing

@@ -1,14 +1,12 @@
 -- The ids of a row, word by word: padding adds nothing, an id with its distance is one id more.
-use mathlib.Core.Path.{_≡_, refl, sym, ap, _∙_, subst}
+use mathlib.Core.Path.{_≡_, sym, ap, _∙_, subst}
 use mathlib.Core.List.{List, [], _∷_, _++_, append-nil}
 use Prim.Native.Nat.{ℕ, _+_, _≤_, _<_}
 use native.Mathlib.Numerals.{add-one}
 use native.Mathlib.Omega.{arith}
 use lib.ListN.{length, getD, take}
-use lib.Ieee.{Float}
 use lib.Seq.{take-suc, take-all}
 use Rattle.definition.specs.Lists.{keep}
-use Rattle.definition.specs.Metric.{whole}
 use Rattle.definition.specs.Tables.{pad, ids}
 use Rattle.laws.specs.Tables.{ids-append, ids-first, ids-skip}
 use Rattle.laws.specs.Words.{padding}
@@ -30,13 +28,12 @@ module _ (row : List ℕ) (k : ℕ) (h : k < length row) where
 -- ---- the words of a row before place k have been added, with the distances d
 pub record RowSoFar (n : ℕ) (row : List ℕ) (d : ℕ → ℕ) (before after : Pool) (k : ℕ) : Type 0 where
   pub le : k ≤ length row
-  pub size : length (after .dists) ≡ length (before .dists)
   pub added : Added n before after (ids (take k row)) (λ f. f ≡ d)
 
 module _ (n : ℕ) (row : List ℕ) (d : ℕ → ℕ) (p₀ : Pool) where
   pub row-start : Pooled n p₀ → RowSoFar n row d p₀ p₀ 0
   unfolding ids keep
-  row-start h = record { le = omega arith; size = refl; added = added-none (λ f. f ≡ d) h }
+  row-start h = record { le = omega arith; added = added-none (λ f. f ≡ d) h }
 
   module _ (p : Pool) (k : ℕ) (w : RowSoFar n row d p₀ p k) where
     pub row-done : length row ≤ k → Added n p₀ p (ids row) (λ f. f ≡ d)
@@ -44,15 +41,14 @@ module _ (n : ℕ) (row : List ℕ) (d : ℕ → ℕ) (p₀ : Pool) where
 
     module _ (h : k < length row) where
       pub row-pad : getD row k 0 ≡ padding → RowSoFar n row d p₀ p (k + 1)
-      row-pad e = record { le = omega arith; size = w .size; added = rw (ids-pad row k h e) (w .added) }
+      row-pad e = record { le = omega arith; added = rw (ids-pad row k h e) (w .added) }
 
-      pub row-real : (getD row k 0 ≡ padding → ⊥) → (p₁ : Pool) (dist : Float) → length (p₁ .dists) ≡ length (p .dists) → dist ≡ whole (d (getD row k 0))
-          → Added n p p₁ (getD row k 0 ∷ []) (λ f. dist ≡ whole (f (getD row k 0))) → RowSoFar n row d p₀ p₁ (k + 1)
-      row-real real p₁ dist nd e a =
+      pub row-real : (getD row k 0 ≡ padding → ⊥) → (p₁ : Pool) (dist : ℕ) → dist ≡ d (getD row k 0)
+          → Added n p p₁ (getD row k 0 ∷ []) (λ f. dist ≡ f (getD row k 0)) → RowSoFar n row d p₀ p₁ (k + 1)
+      row-real real p₁ dist e a =
           record {
             le = omega arith;
-            size = nd ∙ w .size;
             added =
                 rw (ids-real row k h real)
-                (added-then (λ f. f ≡ d) (w .added) a (λ f g. g) (λ f g. e ∙ ap (λ (z : ℕ → ℕ). whole (z (getD row k 0))) (sym g)));
+                (added-then (λ f. f ≡ d) (w .added) a (λ f g. g) (λ f g. e ∙ ap (λ (z : ℕ → ℕ). z (getD row k 0)) (sym g)));
           }

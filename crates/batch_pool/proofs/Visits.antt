@@ -1,32 +1,28 @@
--- What a walk visits: entries, each with its distance, since the start and every word of a row that is no padding is one; and so the scratch holds them.
+-- What a walk visits: entries, each with its distance, since the start and every word of a row that is no padding is one; and so the words hold them.
 use mathlib.Core.Path.{_≡_, refl, sym, ap, _∙_, subst}
 use mathlib.Core.Bool.{Bool, true, false, _||_, cond, true≢false}
-use mathlib.Core.List.{List, [], _∷_}
+use mathlib.Core.List.{List, [], _∷_, map}
 use Prim.Native.Nat.{ℕ, zero, suc, _+_, _*_, _<_}
-use native.Mathlib.Nat.{zero-add}
 use native.Mathlib.Omega.{arith}
 use borrow.Author.Tests.{eq-eqb}
 use lib.Dec.{eqb}
-use lib.Ieee.{Float, nan}
-use lib.ListN.{length, getD, take, drop, length-map}
-use lib.Seq.{getD-take, length-take-le}
+use lib.ListN.{length, getD, take, drop}
+use lib.Seq.{getD-take}
 use Rattle.definition.specs.Lists.{isIn}
-use Rattle.definition.specs.Metric.{whole}
 use Rattle.definition.specs.Tables.{pad, row}
 use Rattle.definition.specs.Beam.{Item, item, nobody, best}
 use Rattle.definition.specs.Greedy.{State, visitedIds, begin, meet, skipped, look, expand, popped, step, stops, steps, greedy}
 use Rattle.laws.specs.All.{All, all-at, all-of, all-append, all-take, all-drop}
+use Rattle.laws.specs.Cleaned.{cleaned-same}
 use Rattle.laws.specs.Mapped.{map-at}
 use Rattle.laws.specs.Truth.{either}
-use Rattle.laws.specs.Parts.{part-at, part-length}
+use Rattle.laws.specs.Parts.{part, part-at}
 use Rattle.laws.specs.Words.{Searchable}
-use Rattle.scratch.specs.Lent.{Lent}
-use Rattle.scratch.specs.Layout.{visitedAt, workAt, workDistsAt}
-use Rattle.marks.specs.Marked.{visitedOf}
+use Rattle.scratch.specs.Layout.{visitedAt, visitedDistsAt}
 use Rattle.greedy.specs.declared.Plan.{Plan}
 use Rattle.greedy.specs.declared.Walked.{Walked}
-use Rattle.greedy.specs.Scratch.{walkOf, visitedDistsOf, Walks}
-use Rattle.batch_pool.specs.Regions.{Seen, SeenBelow, visits}
+use Rattle.greedy.specs.Scratch.{walkOf, Logged, Walks}
+use Rattle.batch_pool.specs.Regions.{seenOf, Seen, SeenBelow, wideWalk, visits}
 
 -- P is whatever the start has, and every word of a row that is no padding
 module _ (P : Item → Type 0) (d : ℕ → ℕ) (beam : ℕ) where
@@ -69,50 +65,53 @@ rows-known n beam width table d r i =
     all-take (Real (Known n d) d beam) width (drop (i * width) table)
     (all-drop (Real (Known n d) d beam) (i * width) table (all-of (Real (Known n d) d beam) 0 table (λ k h q. (r k h q, refl))))
 
-module _ (p : Plan) (table : List ℕ) (d : ℕ → ℕ) (start : ℕ) (low : start < p .n) (rule : Searchable (p .n) table) where
+module _ (p : Plan) (keeps : p .keep ≡ true) (table : List ℕ) (rule : Searchable (p .n) table) (d : ℕ → ℕ) (start : ℕ) (low : start < p .n) where
+  abbrev n : ℕ
+  n = p .n
+
   -- what the walk visits
   abbrev seen : List Item
-  seen = walkOf p d table start .visited
+  seen = wideWalk p d table start .visited
 
-  visited-known : All (Known (p .n) d) seen
-  visited-known = greedy-all (Known (p .n) d) d (p .beam) (row (p .width) table) (rows-known (p .n) (p .beam) (p .width) table d rule) (p .n) start (low, refl)
+  -- a table that keeps the search rule is walked as it is
+  walk-is : walkOf p d table start ≡ wideWalk p d table start
+  walk-is = ap (λ (t : List ℕ). wideWalk p d t start) (cleaned-same (p .n) table rule)
 
-  module _ (epoch : ℕ) (before after : Lent) (r : Walked) (k : Walks p epoch before after r (walkOf p d table start)) where
-    abbrev n : ℕ
-    n = p .n
+  visited-known : All (Known n d) seen
+  visited-known = greedy-all (Known n d) d (p .beam) (row (p .width) table) (rows-known n (p .beam) (p .width) table d rule) n start (low, refl)
 
-    seen-length : length (visitedOf n (after .words)) ≡ n
-    seen-length = part-length (visitedAt n) (workAt n) (after .words) (omega (arith, k .room .space .word-room)) ∙ omega arith
-
+  module _ {epoch : ℕ} {before after keys : List ℕ} {r : Walked} (k : Walks p epoch before after keys r (walkOf p d table start)) where
     visited-count : length seen ≡ r .visited
-    visited-count =
-        sym (length-map seen (λ (c : Item). c .id)) ∙ ap length (sym (k .visited-is .ids-are))
-        ∙ length-take-le (r .visited) (visitedOf n (after .words)) (omega (arith, seen-length, k .visited-le))
+    visited-count = ap (λ (st : State). length (st .visited)) (sym walk-is) ∙ k .visited-is
 
-    id-at : (j : ℕ) → j < r .visited → getD (after .words) (visitedAt n + j) 0 ≡ getD seen j nobody .id
-    id-at j h =
-        sym (part-at (visitedAt n) (workAt n) (after .words) j 0 (omega (arith, k .visited-le)))
-        ∙ sym (getD-take (r .visited) (visitedOf n (after .words)) j 0 h)
-        ∙ ap (λ (l : List ℕ). getD l j 0) (k .visited-is .ids-are)
-        ∙ map-at (λ (c : Item). c .id) nobody 0 seen j (omega (arith, visited-count))
-
-    dist-at : (j : ℕ) → j < r .visited → getD (after .floats) j nan ≡ whole (getD seen j nobody .dist)
-    dist-at j h =
-        ap (λ (i : ℕ). getD (after .floats) i nan) (sym (zero-add j))
-        ∙ sym (part-at 0 (workDistsAt n) (after .floats) j nan (omega (arith, k .visited-le)))
-        ∙ sym (getD-take (r .visited) (visitedDistsOf n (after .floats)) j nan h)
-        ∙ ap (λ (l : List Float). getD l j nan) (k .visited-is .dists-are)
-        ∙ map-at (λ (c : Item). whole (c .dist)) nobody nan seen j (omega (arith, visited-count))
+    logged : Logged n after seen
+    logged = subst (λ (st : State). Logged n after (st .visited)) walk-is (k .logged keeps)
 
     known-at : (j : ℕ) → j < r .visited → Known n d (getD seen j nobody)
     known-at j h = all-at (Known n d) nobody seen visited-known j (omega (arith, visited-count))
 
-    pub seen-below : SeenBelow n (after .words) (r .visited)
+    -- a region of n words that holds f of the visited in front
+    held-at : (f : Item → ℕ) (a e : ℕ) → e ≡ a + n → take (length seen) (part a e after) ≡ map f seen → (j : ℕ) → j < r .visited
+        → getD after (a + j) 0 ≡ f (getD seen j nobody)
+    held-at f a e size are j h =
+        let l : j < length seen = omega (arith, visited-count) in
+        sym (part-at a e after j 0 (omega (arith, k .visited-le)))
+        ∙ sym (getD-take (length seen) (part a e after) j 0 l)
+        ∙ ap (λ (z : List ℕ). getD z j 0) are
+        ∙ map-at f nobody 0 seen j l
+
+    id-at : (j : ℕ) → j < r .visited → getD after (visitedAt n + j) 0 ≡ getD seen j nobody .id
+    id-at = held-at (λ (c : Item). c .id) (visitedAt n) _ (omega arith) (logged .ids-are)
+
+    dist-at : (j : ℕ) → j < r .visited → getD after (visitedDistsAt n + j) 0 ≡ getD seen j nobody .dist
+    dist-at = held-at (λ (c : Item). c .dist) (visitedDistsAt n) _ (omega arith) (logged .dists-are)
+
+    pub seen-below : SeenBelow n after (r .visited)
     seen-below j h = subst (λ (i : ℕ). i < n) (sym (id-at j h)) (known-at j h .0)
 
     pub seen-known : Seen n after (r .visited) d
-    seen-known j h = dist-at j h ∙ ap whole (known-at j h .1 ∙ ap d (sym (id-at j h)))
+    seen-known j h = dist-at j h ∙ known-at j h .1 ∙ ap d (sym (id-at j h))
 
-    pub seen-visits : take (r .visited) (visitedOf n (after .words)) ≡ visits p d table start
+    pub seen-visits : take (r .visited) (seenOf n after) ≡ visits p d table start
     unfolding visits visitedIds
-    seen-visits = k .visited-is .ids-are
+    seen-visits = ap (λ (m : ℕ). take m (seenOf n after)) (sym visited-count) ∙ logged .ids-are

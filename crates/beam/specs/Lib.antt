@@ -1,5 +1,4 @@
--- What two parallel slices hold of a beam, what each call does to it, and the laws that callers cite.
-pub mod Held
+-- Keys in a slice that rises, and the laws that callers cite.
+pub mod Keys
+pub mod Placing
 pub mod ListLaws
-pub mod Order
-pub mod Reading

@@ -1,5 +1,5 @@
 -- The statement of a whole build, from its number, its steps and the room that it cleared.
-use Prim.Native.Nat.{ℕ, _+_, _-_, _*_, _≤_, _<_}
+use Prim.Native.Nat.{ℕ, _-_, _*_, _≤_, _<_}
 use native.Mathlib.Omega.{arith}
 use mathlib.Core.Path.{_≡_, sym, ap, _∙_, subst}
 use mathlib.Core.List.{List}
@@ -25,7 +25,7 @@ use Rattle.given.specs.Listing.{Listing, listing}
 use Rattle.given.specs.Held.{Held, held}
 use Rattle.build_rows.specs.Says.{opened, OpenReady, CloseReady}
 use Rattle.build.specs.Factors.{factors-length, factors-within}
-use Rattle.build.specs.Runs.{Entries, RunsReady, RunsDone}
+use Rattle.build.specs.Runs.{RunsReady, RunsDone}
 
 -- what a whole build's call gives, lists and holds
 abbrev givenBy : BuildCall → ℕ → Given

@@ -7,7 +7,6 @@ use mathlib.Core.List.{List, List·Memᴰ as Mem}
 use borrow.Author.Tests.{leb-true, leb-false, lt-ltb, le-ltb}
 use lib.Dec.{leb, ltb}
 use lib.ListN.{length, take, drop, length-take}
-use lib.Ieee.{Float}
 use Rattle.definition.specs.Lists.{rising}
 use Rattle.definition.specs.Tables.{row, ids, padded}
 use Rattle.definition.specs.Prune.{prune, prunedFrom}
@@ -18,8 +17,8 @@ use Rattle.laws.specs.Apart.{Apart}
 use Rattle.laws.specs.Members.{Same}
 use Rattle.laws.specs.Rising.{rising-keeps, rising-apart}
 use Rattle.laws.specs.Tables.{part-row, row-fits}
-use Rattle.scratch.specs.Layout.{mostFactors}
-use Rattle.given.specs.Given.{Given, setting, widest, degree-slack}
+use Rattle.scratch.specs.Layout.{widest, mostFactors}
+use Rattle.given.specs.Given.{Given, setting, degree-slack}
 use Rattle.prune_pool.specs.Free.{candidates-free, apart-distinct}
 use Rattle.prune_pool.specs.Says.{Distinct}
 use Rattle.prune_fit.specs.Fits.{Fittable, Fitted, fittedTo, fitted-few}
@@ -85,7 +84,7 @@ module _ {g : Given} {i : ℕ} {wide : List ℕ} {size room : ℕ} (r : RowClose
     copied-few = let a = lent-few in let b = c .most in omega arith
 
     module _ {node : ℕ} (is : node ≡ i) where
-      pub row-asks : (dists : List Float) → length list ≡ widest → length dists ≡ widest
+      pub row-asks : (dists : List ℕ) → length list ≡ widest → length dists ≡ widest
           → Fittable g node (g .params .degree) got
           × ((length (take (count - 0) dists) ≡ length got) × (mostFactors ≤ room) × (node * g .params .degree + g .params .degree ≤ size))
       row-asks dists sl sd =

@@ -3,8 +3,8 @@ use Prim.Native.Nat.{ℕ, _+_, _*_, _≤_, _<_}
 use mathlib.Core.Path.{_≡_}
 use mathlib.Core.Bool.{true}
 use mathlib.Core.List.{List}
-use lib.ListN.{length, take}
-use Rattle.definition.specs.Tables.{row, ids, buildRow}
+use lib.ListN.{length}
+use Rattle.definition.specs.Tables.{row, buildRow}
 use Rattle.definition.specs.Slack.{slack}
 use Rattle.definition.specs.Batch.{wideIds}
 use Rattle.definition.specs.Build.{closedIds}
@@ -31,11 +31,6 @@ pub record OpenReady (o : Opened) (size : ℕ) : Type 0 where
   pub width-is : o .width ≡ slack (o .degree)
   pub rows : Ruled (o .n) (o .degree) (o .rows)
   pub table : size ≡ o .n * o .width
-
--- the first r words are the ids of the row
-pub record IdsCopied (words out : List ℕ) (r : ℕ) : Type 0 where
-  pub are : take r out ≡ ids words
-  pub most : r ≤ length words
 
 -- row i of the wide table, to be closed into a table of `size` words; `room` is how many factors there are
 pub record RowCloses (g : Given) (i : ℕ) (wide : List ℕ) (size room : ℕ) : Type 0 where

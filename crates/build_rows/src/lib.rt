@@ -1,6 +1,6 @@
 // Part 7 on accepted input: opening rows become rows of the wide table, and its rows become those of the closed one.
 ghost use mathlib.Core.Path.{_≡_};
-ghost use Prim.Native.Nat.{ℕ, _+_, _*_, _≤_, _<_};
+ghost use Prim.Native.Nat.{_+_, _*_, _<_};
 ghost use lib.ListN.{length};
 ghost use Rattle.definition.specs.Build.{open′, close};
 ghost use Rattle.given.specs.Given.{given, setting};
@@ -33,8 +33,8 @@ fn close_row(
     requires { ⌜ RowCloses (given g (now vectors)) i (now wide) (length (now closed)) (length (now factors)) ⌝ }
     ensures { λ _. ⌜ RowClosed (given g (now (vectors .entry))) i (now (wide .entry)) (now (closed .entry)) (now (closed .exit)) ⌝ }
 {
-    let mut ids = [0u32; given::WIDEST];
-    let mut dists = [0.0f32; given::WIDEST];
+    let mut ids = [0u32; scratch::WIDEST];
+    let mut dists = [0u32; scratch::WIDEST];
     let slack = g.slack;
     let node = table::word_of(i);
     let a = i * slack;
@@ -46,7 +46,7 @@ fn close_row(
         node,
         g.params.degree,
         closed,
-        &mut ids[0..count],
+        &ids[0..count],
         &mut dists[0..count],
         factors,
     );

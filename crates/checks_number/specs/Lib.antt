@@ -2,5 +2,6 @@
 pub mod Tests
 pub mod Shared
 pub mod SearchNumber
+pub mod FitNumber
 pub mod BuildNumbers
 pub mod MedoidNumber

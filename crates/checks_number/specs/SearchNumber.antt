@@ -12,7 +12,7 @@ use Rattle.definition.specs.declared.Candidate.{Candidate}
 use Rattle.definition.specs.Refusals.{SearchCall, badDegree, badBeam, badStart, badSearched, short, mostAnswers, searchShort}
 use Rattle.definition.specs.Refusals.{searchNumberAt, searchNumber, recordsNumber}
 use Rattle.checks.specs.Lengths.{searchShortBy}
-use Rattle.checks_number.specs.Tests.{Tests, numberOf}
+use Rattle.checks_number.specs.Tests.{Tests, numberOf, holdsAt, numbered, cleared}
 use Rattle.checks_number.specs.Shared.{entryTests}
 
 abbrev pub callOf : ℕ → ℕ → List ℕ → ℕ → ℕ → ℕ → ℕ → List ℕ → List ℕ → List ℕ → List Float → List ℕ → List Float → SearchCall
@@ -38,6 +38,20 @@ short-is : (c : SearchCall) (words floats ids dists run : ℕ) → length (c .wo
 unfolding searchShort short searchShortBy
 short-is c words floats ids dists run p q r s = rw (p, q, r, s) refl
 
+-- ---- the tests of a search: those of its numbers and vectors, 8, and those of what it is lent, with the query's
+
+abbrev pub limitTests : ℕ → ℕ → List ℕ → ℕ → ℕ → ℕ → Tests
+limitTests n dim vectors degree beam start = entryTests n dim vectors ++ ((3, badDegree degree) ∷ (4, badBeam beam) ∷ (6, badStart n start) ∷ [])
+
+abbrev pub lengthTests : ℕ → ℕ → ℕ → ℕ → List ℕ → ℕ → ℕ → ℕ → ℕ → ℕ → Tests
+lengthTests n dim beam k query words floats ids dists run =
+    (10, searchShortBy n beam k words floats ids dists run) ∷ (11, not (eqb (length query) dim)) ∷ []
+
+pub limits-clear : (n dim : ℕ) (vectors : List ℕ) (degree beam start : ℕ) → numberOf (limitTests n dim vectors degree beam start) ≡ 0
+    → (i : ℕ) → holdsAt (limitTests n dim vectors degree beam start) i ≡ false
+unfolding numbered
+limits-clear n dim vectors degree beam start z = cleared (limitTests n dim vectors degree beam start) refl z
+
 module _ (n dim : ℕ) (vectors : List ℕ) (degree beam k start : ℕ) (table query : List ℕ) (words floats ids dists run : ℕ) where
   -- r is the number of every search that is lent these lengths, with `run` records
   pub record SearchNumbered (r : ℕ) : Type 0 where
@@ -46,9 +60,8 @@ module _ (n dim : ℕ) (vectors : List ℕ) (degree beam k start : ℕ) (table q
 
   abbrev pub searchTests : Tests
   searchTests =
-      entryTests n dim vectors
-      ++ ((3, badDegree degree) ∷ (4, badBeam beam) ∷ (6, badStart n start) ∷ (8, badSearched n degree table)
-      ∷ (10, searchShortBy n beam k words floats ids dists run) ∷ (11, not (eqb (length query) dim)) ∷ [])
+      limitTests n dim vectors degree beam start
+      ++ ((8, badSearched n degree table) ∷ lengthTests n dim beam k query words floats ids dists run)
 
 module _ {n dim : ℕ} {vectors : List ℕ} {degree beam k start : ℕ} {table query : List ℕ} {words floats ids dists run r : ℕ} where
   pub search-numbered : r ≡ numberOf (searchTests n dim vectors degree beam k start table query words floats ids dists run)

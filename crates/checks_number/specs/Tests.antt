@@ -6,7 +6,7 @@ use Prim.Native.Nat.{ℕ, zero, suc, _-_}
 use native.Mathlib.Omega.{arith}
 use borrow.Author.Tests.{ltb-true}
 use lib.Dec.{ltb}
-use lib.ListN.{length, take}
+use lib.ListN.{length, take, drop}
 use Rattle.definition.specs.Refusals.{_when_else_}
 use Rattle.laws.specs.Truth.{and-both, decide}
 use Rattle.accepted.specs.Chain.{past, stop, passed}
@@ -67,6 +67,16 @@ none-at (t ∷ ts) c = none-at ts (λ j. c (suc j)) ∙ sym (past (t .0) (t .1) 
 
 pub nothing : {ts : Tests} → Clear (length ts) ts → 0 ≡ numberOf ts
 nothing {ts} c = none-at ts (c .no)
+
+-- the first k do not: the number is that of the rest
+rest-at : (k : ℕ) (ts : Tests) → ((i : ℕ) → holdsAt (take k ts) i ≡ false) → numberOf (drop k ts) ≡ numberOf ts
+unfolding holdsAt numberOf
+rest-at zero ts c = refl
+rest-at (suc k) [] c = refl
+rest-at (suc k) (t ∷ ts) c = rest-at k ts (λ j. c (suc j)) ∙ sym (past (t .0) (t .1) (numberOf ts) (c zero))
+
+pub rest : {k : ℕ} {ts : Tests} {r : ℕ} → Clear k ts → r ≡ numberOf (drop k ts) → r ≡ numberOf ts
+rest {k} {ts} c e = e ∙ rest-at k ts (c .no)
 
 -- no test has number 0; so number 0 says of each that it does not hold
 unfoldable pub numbered : Tests → Bool

@@ -21,9 +21,12 @@ use checks::tables::bad_table;
 use checks::tables::bad_wide;
 use definition::Params;
 ghost use mathlib.Core.Path.{_≡_};
+ghost use Prim.Native.Nat.{_≤_};
+ghost use Rattle.definition.specs.Tables.{cleaned};
 ghost use Rattle.checks_number.specs.Tests.{numberOf};
 ghost use Rattle.checks_number.specs.Shared.{entryTests, paramTests};
-ghost use Rattle.checks_number.specs.SearchNumber.{SearchNumbered};
+ghost use Rattle.checks_number.specs.SearchNumber.{limitTests, lengthTests, SearchNumbered};
+ghost use Rattle.checks_number.specs.FitNumber.{FitNumbered};
 ghost use Rattle.checks_number.specs.BuildNumbers.{BatchNumbered, OpenNumbered, CloseNumbered, BuildNumbered};
 ghost use Rattle.checks_number.specs.MedoidNumber.{MedoidNumbered};
 
@@ -63,6 +66,58 @@ fn params_number(n: usize, dim: usize, vectors: &[u8], params: Params, start: u3
     0
 }
 
+// 1 to 6, which a search and a lookup begin with.
+fn limits_number(
+    n: usize,
+    dim: usize,
+    vectors: &[u8],
+    degree: usize,
+    beam: usize,
+    start: u32,
+) -> u32
+    ensures { λ r. ⌜ r ≡ numberOf (limitTests n dim (now (vectors .entry)) degree beam start) ⌝ }
+{
+    let early = entries_number(n, dim, vectors);
+    if early != 0 {
+        return early;
+    }
+    if bad_degree(degree) {
+        return 3;
+    }
+    if bad_beam(beam) {
+        return 4;
+    }
+    if bad_start(n, start) {
+        return 6;
+    }
+    0
+}
+
+// 10 and 11, which they end with.
+fn lengths_number(
+    n: usize,
+    dim: usize,
+    beam: usize,
+    k: usize,
+    query: &[u8],
+    words: usize,
+    floats: usize,
+    ids: usize,
+    dists: usize,
+    run: usize,
+) -> u32
+    requires { ⌜ n ≤ 65536 ⌝ }
+    ensures { λ r. ⌜ r ≡ numberOf (lengthTests n dim beam k (now (query .entry)) words floats ids dists run) ⌝ }
+{
+    if search_short(n, beam, k, words, floats, ids, dists, run) {
+        return 10;
+    }
+    if query.len() != dim {
+        return 11;
+    }
+    0
+}
+
 // Of a search, with `run` records beside its two outputs; a search without them gives k.
 pub fn search_number(
     n: usize,
@@ -82,27 +137,57 @@ pub fn search_number(
 ) -> u32
     ensures { λ r. ⌜ SearchNumbered n dim (now (vectors .entry)) degree beam k start (now (table .entry)) (now (query .entry)) words floats ids dists run r ⌝ }
 {
-    let early = entries_number(n, dim, vectors);
+    let early = limits_number(n, dim, vectors, degree, beam, start);
     if early != 0 {
         return early;
-    }
-    if bad_degree(degree) {
-        return 3;
-    }
-    if bad_beam(beam) {
-        return 4;
-    }
-    if bad_start(n, start) {
-        return 6;
     }
     if bad_searched(n, degree, table) {
         return 8;
     }
-    if search_short(n, beam, k, words, floats, ids, dists, run) {
-        return 10;
+    lengths_number(n, dim, beam, k, query, words, floats, ids, dists, run)
+}
+
+// Of a lookup: of its table the length alone is looked at, and so it is the number of the search whose table is cleaned.
+pub fn lookup_number(
+    n: usize,
+    dim: usize,
+    vectors: &[u8],
+    degree: usize,
+    beam: usize,
+    k: usize,
+    start: u32,
+    table: &[u32],
+    query: &[u8],
+    words: usize,
+    floats: usize,
+    ids: usize,
+    dists: usize,
+) -> u32
+    ensures { λ r. ⌜ SearchNumbered n dim (now (vectors .entry)) degree beam k start (cleaned n (now (table .entry))) (now (query .entry))
+        words floats ids dists k r ⌝ }
+{
+    let early = limits_number(n, dim, vectors, degree, beam, start);
+    if early != 0 {
+        return early;
     }
-    if query.len() != dim {
-        return 11;
+    if bad_length(n, degree, table.len()) {
+        return 8;
+    }
+    lengths_number(n, dim, beam, k, query, words, floats, ids, dists, k)
+}
+
+// Of fit.
+pub fn fit_number(n: usize, degree: usize, table: &[u32]) -> u32
+    ensures { λ r. ⌜ FitNumbered n degree (now (table .entry)) r ⌝ }
+{
+    if bad_count(n) {
+        return 2;
+    }
+    if bad_degree(degree) {
+        return 3;
+    }
+    if bad_searched(n, degree, table) {
+        return 8;
     }
     0
 }

@@ -1,13 +1,12 @@
 -- A slice in which each word is a function of its place, written from its front.
-use mathlib.Core.Path.{_≡_, refl, sym, ap, _∙_, subst}
+use mathlib.Core.Path.{_≡_, sym, subst}
 use mathlib.Core.List.{List, _∷_, map, map-id}
-use Prim.Native.Nat.{ℕ, zero, suc, _+_, _-_, _≤_, _<_}
+use Prim.Native.Nat.{ℕ, suc, _+_, _-_, _≤_, _<_}
 use native.Mathlib.Nat.{sub-zero}
 use native.Mathlib.Numerals.{add-one}
 use native.Mathlib.Omega.{arith}
 use lib.ListN.{length, set}
 use Rattle.definition.specs.Lists.{run, upto}
-use Rattle.laws.specs.Members.{length-upto}
 use Rattle.laws.specs.Writing.{Writing, start, put, all-ends}
 
 -- f of m places: those from j on are still to be written

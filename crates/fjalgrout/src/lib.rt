@@ -9,7 +9,8 @@ use definition::Params;
 use draws::Stepped;
 ghost use mathlib.Core.Path.{_≡_};
 ghost use Rattle.definition.specs.Defaults.{defaults};
-ghost use Rattle.definition.specs.Outcome.{distanceOut, medoidOut, BatchMeets, OpenMeets, CloseMeets, BuildMeets, SearchMeets, RecordsMeets};
+ghost use Rattle.definition.specs.Outcome.{distanceOut, medoidOut, fitOut, BatchMeets, OpenMeets, CloseMeets, BuildMeets};
+ghost use Rattle.definition.specs.Outcome.{SearchMeets, LookupMeets, RecordsMeets};
 ghost use Rattle.draws.specs.Says.{DrawSays, RowsSays, SeedsSays, OrderSays, PivotsSays};
 
 // The build parameters with the four defaults of 000. No number.
@@ -174,6 +175,52 @@ pub extern "C" fn fjalgrout_search(
         ids,
         dists,
     )
+}
+
+// Part 9. A search that makes no pass over its table: a word that is no id below n reads as padding. Numbers 1, 2, 3, 4, 6, 8 (its length alone), 10, 11.
+#[no_mangle]
+pub extern "C" fn fjalgrout_lookup(
+    n: usize,
+    dim: usize,
+    vectors: &[u8],
+    degree: usize,
+    beam: usize,
+    k: usize,
+    start: u32,
+    table: &[u32],
+    query: &[u8],
+    words: &mut [u32],
+    floats: &mut [f32],
+    ids: &mut [u32],
+    dists: &mut [f32],
+) -> Answer
+    ensures { λ r. ⌜ LookupMeets
+        (record { n = n; dim = dim; vectors = now (vectors .entry); degree = degree; beam = beam; k = k; start = start; table = now (table .entry); query = now (query .entry); words = now (words .entry); floats = now (floats .entry); ids = now (ids .entry); dists = now (dists .entry) })
+        (record { answer = r; words = now (words .exit); floats = now (floats .exit); ids = now (ids .exit); dists = now (dists .exit) }) ⌝ }
+{
+    search::lookup(
+        n,
+        dim,
+        vectors,
+        degree,
+        beam,
+        k,
+        start,
+        table,
+        query,
+        words,
+        floats,
+        ids,
+        dists,
+    )
+}
+
+// Part 9. Whether a table may be searched. Numbers 2 (the limits of n), 3, 8.
+#[no_mangle]
+pub extern "C" fn fjalgrout_fit(n: usize, degree: usize, table: &[u32]) -> Answer
+    ensures { λ r. ⌜ r ≡ fitOut (record { n = n; degree = degree; table = now (table .entry) }) ⌝ }
+{
+    search::fit(n, degree, table)
 }
 
 // Part 9. A search, and its answers once more as a run of records. Numbers 1, 2, 3, 4, 6, 8, 10, 11.

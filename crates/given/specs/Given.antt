@@ -11,6 +11,7 @@ use Rattle.definition.specs.Floats.{four, above}
 use Rattle.definition.specs.Outcome.{settingOf}
 use Rattle.definition.specs.Slack.{slack}
 use Rattle.laws.specs.Words.{Searchable}
+use Rattle.scratch.specs.Layout.{widest}
 use Rattle.given.specs.declared.Ground.{Ground}
 
 -- `width` is how many words a row of the wide table has
@@ -27,10 +28,6 @@ given g vectors = record { n = g .n; dim = g .dim; vectors = vectors; params = g
 
 abbrev pub setting : Given → Setting
 setting g = settingOf (g .n) (g .dim) (g .vectors) (g .params)
-
--- the slack of the greatest degree: no row of a wide table has more words
-abbrev pub widest : ℕ
-widest = 84
 
 pub degree-slack : (degree width : ℕ) → width ≡ slack degree → degree ≤ 64 → (degree ≤ width) × (width ≤ widest)
 unfolding slack

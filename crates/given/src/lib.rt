@@ -8,6 +8,3 @@ pub struct Ground {
     pub slack: usize,
     pub params: Params,
 }
-
-// The slack of the greatest degree: no row of a wide table has more words.
-pub const WIDEST: usize = 84;

@@ -1,63 +1,38 @@
 -- The definition of greedy, case by case, in the words of the code's tests.
 use mathlib.Core.Path.{_≡_, refl, sym, ap, _∙_}
 use mathlib.Core.Bool.{Bool, true, false, _||_, cond}
-use mathlib.Core.List.{List, [], _∷_, _++_, map, append-assoc, append-nil}
+use mathlib.Core.List.{List, [], _∷_, _++_, map}
 use Prim.Native.Nat.{ℕ, zero, suc}
 use borrow.Author.Tests.{eq-eqb, ne-eqb}
-use lib.Dec.{eqb, ltb}
-use lib.ListN.{length}
+use lib.Dec.{eqb}
+use lib.ListN.{length, length-map}
 use Rattle.definition.specs.Lists.{isIn}
-use Rattle.definition.specs.Tables.{pad}
-use Rattle.definition.specs.Beam.{Item, item, insert, insertCapped, best, beatsWorst}
+use Rattle.definition.specs.Tables.{pad, row, cleaned}
+use Rattle.definition.specs.Beam.{Item, item, best}
 use Rattle.definition.specs.Prune.{measured}
-use Rattle.definition.specs.Greedy.{State, visitedIds, begin, admitted, meet, skipped, look, expand, popped, step, stops, filled, steps, greedy}
+use Rattle.definition.specs.Greedy.{State, visitedIds, begin, meet, skipped, look, expand, popped, step, stops, filled, steps, greedy}
 use Rattle.laws.specs.Backwards.{map-append}
 use Rattle.marks.specs.Marked.{news}
-use Rattle.greedy.specs.Scratch.{meets}
-
--- ---- one entry that is met
-module _ (beam : ℕ) (x : Item) (st : State) where
-  pub admitted-is : admitted beam x st ≡ (ltb (length (st .work)) beam || beatsWorst x (st .work))
-  unfolding admitted
-  admitted-is = refl
-
-  pub meet-frontier : (t : Bool) → admitted beam x st ≡ t → meet beam x st .frontier ≡ cond t (insert x (st .frontier)) (st .frontier)
-  unfolding meet
-  meet-frontier t e = rw e refl
-
-  pub meet-work : (t : Bool) → admitted beam x st ≡ t → meet beam x st .work ≡ cond t (insertCapped beam x (st .work)) (st .work)
-  unfolding meet
-  meet-work t e = rw e refl
-
-  pub meet-visited : meet beam x st .visited ≡ st .visited ++ (x ∷ [])
-  unfolding meet
-  meet-visited = refl
-
--- ---- entries that are met, one after another
-pub meets-none : (beam : ℕ) (st : State) → meets beam st [] ≡ st
-unfolding meets
-meets-none beam st = refl
-
-pub meets-one : (beam : ℕ) (st : State) (x : Item) → meets beam st (x ∷ []) ≡ meet beam x st
-unfolding meets
-meets-one beam st x = refl
-
-pub meets-more : (beam : ℕ) (st : State) (a b : List Item) → meets beam st (a ++ b) ≡ meets beam (meets beam st a) b
-unfolding meets
-meets-more beam st [] b = refl
-meets-more beam st (x ∷ xs) b = meets-more beam (meet beam x st) xs b
-
-pub meets-visited : (beam : ℕ) (st : State) (l : List Item) → meets beam st l .visited ≡ st .visited ++ l
-unfolding meets
-meets-visited beam st [] = sym (append-nil (st .visited))
-meets-visited beam st (x ∷ xs) =
-    meets-visited beam (meet beam x st) xs ∙ ap (λ (z : List Item). z ++ xs) (meet-visited beam x st) ∙ append-assoc (st .visited) (x ∷ []) xs
+use Rattle.kept.specs.Says.{meets}
+use Rattle.kept.specs.Cases.{meet-visited}
+use Rattle.greedy.specs.declared.Plan.{Plan}
+use Rattle.greedy.specs.Scratch.{fromStart}
 
 -- ---- a row: its new ids are met, in order
-pub measured-ids : (d : ℕ → ℕ) (l : List ℕ) → map (λ (c : Item). c .id) (measured d l) ≡ l
-unfolding measured
-measured-ids d [] = refl
-measured-ids d (i ∷ is) = ap (λ (z : List ℕ). i ∷ z) (measured-ids d is)
+module _ (d : ℕ → ℕ) where
+  pub measured-ids : (l : List ℕ) → map (λ (c : Item). c .id) (measured d l) ≡ l
+  unfolding measured
+  measured-ids [] = refl
+  measured-ids (i ∷ is) = ap (λ (z : List ℕ). i ∷ z) (measured-ids is)
+
+  pub measured-dists : (l : List ℕ) → map (λ (c : Item). c .dist) (measured d l) ≡ map d l
+  unfolding measured
+  measured-dists [] = refl
+  measured-dists (i ∷ is) = ap (λ (z : List ℕ). d i ∷ z) (measured-dists is)
+
+  pub measured-length : (l : List ℕ) → length (measured d l) ≡ length l
+  unfolding measured
+  measured-length l = length-map l (λ (i : ℕ). item (d i) i)
 
 module _ (d : ℕ → ℕ) (beam : ℕ) where
   meet-ids : (st : State) (w : ℕ) → visitedIds (meet beam (item (d w) w) st) ≡ visitedIds st ++ (w ∷ [])
@@ -80,6 +55,10 @@ module _ (d : ℕ → ℕ) (beam : ℕ) where
       go false old new = new ∙ ap (λ (l : List ℕ). meets beam met (measured d (news l ws))) (meet-ids st w)
 
 -- ---- the steps
+pub steps-none : (d : ℕ → ℕ) (rows : ℕ → List ℕ) (beam : ℕ) (s : State) → steps d rows beam 0 s ≡ s
+unfolding steps
+steps-none d rows beam s = refl
+
 pub steps-stop : (d : ℕ → ℕ) (rows : ℕ → List ℕ) (beam k : ℕ) (s : State) → stops beam s ≡ true → steps d rows beam k s ≡ s
 unfolding steps
 steps-stop d rows beam zero s e = refl
@@ -106,3 +85,19 @@ step-is d rows beam s id e = ap (λ (i : ℕ). expand d beam (popped s) (rows i)
 pub greedy-is : (d : ℕ → ℕ) (rows : ℕ → List ℕ) (n beam start : ℕ) → greedy d rows n beam start ≡ steps d rows beam n (begin d beam start)
 unfolding greedy
 greedy-is d rows n beam start = refl
+
+-- ---- from the start
+module _ (p : Plan) (d : ℕ → ℕ) (table : List ℕ) (start : ℕ) where
+  abbrev rows : ℕ → List ℕ
+  rows = row (p .width) (cleaned (p .n) table)
+
+  abbrev from : Bool → State → State
+  from t st = cond t (expand d (p .beam) st (rows start)) (steps d rows (p .beam) (p .n) st)
+
+  pub from-none : p .beam ≡ 0 → fromStart p d table start ≡ (λ st. expand d (p .beam) st (rows start))
+  unfolding fromStart
+  from-none e = ap from (eq-eqb (p .beam) 0 e)
+
+  pub from-some : (p .beam ≡ 0 → ⊥) → fromStart p d table start ≡ (λ st. steps d rows (p .beam) (p .n) st)
+  unfolding fromStart
+  from-some e = ap from (ne-eqb (p .beam) 0 e)

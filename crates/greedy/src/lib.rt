@@ -1,211 +1,119 @@
-// Part 4. The greedy walk from a start over the rows of a flat table of any width; one walk serves search and build. Crate scratch says where its regions lie:
-// marks, the ids of the visited and work in the words, the distances of the visited and of work in the floats.
-//
-// Work and frontier are one beam. What the frontier has and work has not was cut from a full work: it is no nearer than the worst, so the walk ends before
-// it is reached. So work alone is kept, each id doubled, and one more while its row is not yet walked: that order is the order of the ids.
+// Part 4. The greedy walk from a start over the rows of a flat table of any width; one walk serves search and build. A word of the table that is no entry
+// reads as padding, so that a walk asks nothing of its table but the length. Crate kept has work and frontier, crate scratch says where in the words marks
+// and visited lie.
 
-use beam::Placed;
+use kept::Work;
 ghost use mathlib.Core.Path.{_≡_};
-ghost use mathlib.Core.List.{[], _∷_, _++_, map};
-ghost use Prim.Native.Nat.{ℕ, _+_, _-_, _*_, _/_, _≤_, _<_};
-ghost use lib.ListN.{length, take, drop, getD, set};
+ghost use Prim.Native.Nat.{_+_, _≤_, _<_};
+ghost use lib.ListN.{length, replicate};
 ghost use Rattle.definition.specs.Metric.{fromQuery};
-ghost use Rattle.definition.specs.Tables.{row};
+ghost use Rattle.definition.specs.Tables.{row, cleaned};
 ghost use Rattle.definition.specs.Greedy.{expand, steps};
-ghost use Rattle.laws.specs.Parts.{part};
-ghost use Rattle.laws.specs.Words.{Searchable};
-ghost use Rattle.scratch.specs.Lent.{lent};
-ghost use Rattle.scratch.specs.Layout.{visitedAt};
-ghost use Rattle.greedy.specs.Scratch.{Measures, Ground, walkOf, standing, Space, Ready, Live, Empty, Room, admitsF, haltsF};
-ghost use Rattle.greedy.specs.Scratch.{entry, Pushed, Met, Moves, Next, Arrived, Reaches, Collected, Walks};
+ghost use Rattle.scratch.specs.Layout.{widest, poolAt};
+ghost use Rattle.beam.specs.Keys.{none};
+ghost use Rattle.greedy.specs.Scratch.{Measures, Ground, fromStart, walkOf, standing, Ready, Live, Room, Rooms, Keeps, Moves, Walks};
 
-// What a walk goes by: n entries of dim bytes, and rows of width words.
+// What a walk goes by: n entries of dim bytes, and rows of width words; and whether it keeps a list of all that it visits.
 pub struct Plan {
     pub n: usize,
     pub dim: usize,
     pub width: usize,
     pub beam: usize,
+    pub keep: bool,
 }
 
-// How many were visited, how many the frontier has, how many work has, and how many of these, the best, are walked.
+// How many were visited, and what work has.
 pub struct Counts {
     pub visited: usize,
-    pub frontier: usize,
-    pub work: usize,
-    pub done: usize,
+    pub work: Work,
 }
 
-// An item into work, its row not yet walked.
-fn push(words: &mut [u32], floats: &mut [f32], p: Plan, w: usize, id: u32, dist: f32) -> Placed
-    requires { ⌜ Space p (lent (now words) (now floats)) ⌝ }
-    requires { ⌜ (w ≤ p .beam) × (id < p .n) ⌝ }
-    ensures { λ r. ⌜ Pushed p (lent (now (words .entry)) (now (floats .entry))) (lent (now (words .exit)) (now (floats .exit))) w (entry id dist) r ⌝ }
+// New entries with their distances, behind the v visited.
+fn keep_each(words: &mut [u32], n: usize, v: usize, ids: &[u32], dists: &[u32])
+    requires { ⌜ (n ≤ 65536) × (poolAt n ≤ length (now words)) × (v + length (now ids) ≤ n) × (length (now ids) ≡ length (now dists)) ⌝ }
+    ensures { λ _. ⌜ Keeps n v (now (ids .entry)) (now (dists .entry)) (now (words .entry)) (now (words .exit)) ⌝ }
 {
-    let n = p.n;
-    let at = scratch::work_at(n);
-    let end = scratch::work_end(n);
-    let fend = scratch::work_dists_end(n);
-    let code = 2 * id + 1;
-    beam::insert_capped(
-        &mut words[at..end],
-        &mut floats[n..fend],
-        w,
-        p.beam,
-        code,
-        dist,
-    )
-}
-
-// Work is below beam, or the distance is strictly below the worst's.
-fn admits(work: &[f32], len: usize, beam: usize, dist: f32) -> bool
-    requires { ⌜ len ≤ length (now work) ⌝ }
-    ensures { λ r. ⌜ r ≡ admitsF (now (work .entry)) len beam dist ⌝ }
-{
-    if len < beam {
-        return true;
-    }
-    if 0 < len {
-        return dist < work[0];
-    }
-    false
-}
-
-// A newly visited entry, put into work where it is admitted.
-fn meet(words: &mut [u32], floats: &mut [f32], p: Plan, c: Counts, id: u32, dist: f32) -> Counts
-    requires { ⌜ Space p (lent (now words) (now floats)) ⌝ }
-    requires { ⌜ (c .work ≤ p .beam) × (c .done ≤ c .work) × (id < p .n) × (c .frontier < 65536) ⌝ }
-    ensures { λ r. ⌜ Met p (standing (now (words .entry)) (now (floats .entry)) c) (standing (now (words .exit)) (now (floats .exit)) r)
-        (id ∷ []) (dist ∷ []) ⌝ }
-{
-    let n = p.n;
-    let fend = scratch::work_dists_end(n);
-    if admits(&floats[n..fend], c.work, p.beam, dist) {
-        let r = push(words, floats, p, c.work, id, dist);
-        return Counts {
-            visited: c.visited,
-            frontier: c.frontier + 1,
-            work: r.len,
-            done: laws::least(r.near, c.done),
-        };
-    }
-    c
-}
-
-// The entries visited from place `from` on, in order.
-fn meet_each(words: &mut [u32], floats: &mut [f32], p: Plan, from: usize, c: Counts) -> Counts
-    requires { ⌜ Space p (lent (now words) (now floats)) ⌝ }
-    requires { ⌜ (c .work ≤ p .beam) × (c .done ≤ c .work) ⌝ }
-    requires { ⌜ (from ≤ c .visited) × (c .visited ≤ p .n) × (c .frontier ≤ from) ⌝ }
-    requires { ⌜ ((j : ℕ) → from ≤ j → j < c .visited → getD (now words) (visitedAt (p .n) + j) 0 < p .n) ⌝ }
-    ensures { λ r. ⌜ Met p (standing (now (words .entry)) (now (floats .entry)) c) (standing (now (words .exit)) (now (floats .exit)) r)
-        (part (visitedAt (p .n) + from) (visitedAt (p .n) + c .visited) (now (words .entry))) (part from (c .visited) (now (floats .entry))) ⌝ }
-{
-    // the ids of the visited lie from n on
-    let n = p.n;
-    let mut s = c;
-    let mut j = from;
-    while j < c.visited {
-        let at = n + j;
-        let id = words[at];
-        let dist = floats[j];
-        s = meet(words, floats, p, s, id, dist);
+    let ids_at = scratch::visited_at(n) + v;
+    let dists_at = scratch::visited_dists_at(n) + v;
+    let mut j = 0;
+    while j < ids.len() {
+        let i = ids_at + j;
+        let d = dists_at + j;
+        words[i] = ids[j];
+        words[d] = dists[j];
         j += 1;
     }
-    s
 }
 
-// A row: its new ids are marked, then measured, then met, in order.
+// A word of each 64 bytes of a row, read so that they are on their way from memory while other work is done. What is read decides nothing: it goes to `out`,
+// since a load whose value goes nowhere is taken away by the compiler.
+fn touch_row(row: &[u32], out: &mut [u32])
+    requires { ⌜ length (now row) ≤ length (now out) ⌝ }
+{
+    let mut k = 0;
+    while k < row.len() {
+        out[k] = row[k];
+        k += 16;
+    }
+}
+
+// The row that is walked next, as far as work is known, if it lies in the table.
+fn touch_next(keys: &[u64], w: Work, table: &[u32], width: usize, out: &mut [u32])
+    requires { ⌜ (w .len ≤ length (now keys)) × (w .done ≤ w .len) ⌝ }
+    requires { ⌜ (width ≤ widest) × (length (now out) ≡ widest) ⌝ }
+{
+    let from = kept::ahead(keys, w) as usize * width;
+    let to = from + width;
+    if to <= table.len() {
+        touch_row(&table[from..to], out);
+    }
+}
+
+// A row: its new ids are marked, then measured, then kept and met, in order. `fresh` and `apart` are room for a row. What is touched goes to `apart` as well:
+// the distances go over it, or it lies behind them, where nothing reads it.
 fn expand(
     words: &mut [u32],
-    floats: &mut [f32],
+    keys: &mut [u64],
+    fresh: &mut [u32],
+    apart: &mut [u32],
     vectors: &[u8],
     query: &[u8],
-    ids: &[u32],
+    row: &[u32],
     p: Plan,
     epoch: u32,
     c: Counts,
 ) -> Counts
-    requires { ⌜ Ready p epoch (standing (now words) (now floats) c) ⌝ }
+    requires { ⌜ Ready p epoch (standing (now words) (now keys) c) ⌝ }
+    requires { ⌜ Live p epoch (standing (now words) (now keys) c) ⌝ }
     requires { ⌜ Measures (p .n) (p .dim) (now vectors) (now query) ⌝ }
-    requires { ⌜ Searchable (p .n) (now ids) ⌝ }
-    ensures { λ r. ⌜ Moves p epoch (standing (now (words .entry)) (now (floats .entry)) c) (standing (now (words .exit)) (now (floats .exit)) r)
-        (λ st. expand (fromQuery (p .dim) (now (vectors .entry)) (now (query .entry))) (p .beam) st (now (ids .entry))) ⌝ }
+    requires { ⌜ Rooms (now row) (now fresh) (now apart) ⌝ }
+    ensures { λ r. ⌜ Moves p epoch (standing (now (words .entry)) (now (keys .entry)) c) (standing (now (words .exit)) (now (keys .exit)) r)
+        (λ st. expand (fromQuery (p .dim) (now (vectors .entry)) (now (query .entry))) (p .beam) st (cleaned (p .n) (now (row .entry)))) ⌝ }
 {
-    // the ids of the visited lie from n on
     let n = p.n;
-    let from = c.visited;
-    let to = marks::gather(words, n, epoch, from, ids);
-    let at = n + from;
-    let end = n + to;
+    let count = marks::gather(words, n as u32, epoch, row, fresh);
+    metric::touch_each(p.dim, vectors, &fresh[0..count], &mut apart[0..count]);
     metric::from_query_each(
         p.dim,
         vectors,
         query,
-        &words[at..end],
-        &mut floats[from..to],
+        &fresh[0..count],
+        &mut apart[0..count],
     );
-    let s = Counts {
-        visited: to,
-        frontier: c.frontier,
-        work: c.work,
-        done: c.done,
-    };
-    meet_each(words, floats, p, from, s)
-}
-
-// How many of the best are walked, once those that were are passed: from `done` on, up to one that is not.
-fn next(work: &[u32], w: usize, done: usize) -> usize
-    requires { ⌜ (w ≤ length (now work)) × (done ≤ w) ⌝ }
-    ensures { λ r. ⌜ Next (now (work .entry)) w done r ⌝ }
-{
-    let mut d = done;
-    while d < w {
-        let last = w - 1;
-        let at = last - d;
-        if work[at] % 2 != 0 {
-            break;
-        }
-        d += 1;
+    if p.keep {
+        keep_each(words, n, c.visited, &fresh[0..count], &apart[0..count]);
     }
-    d
-}
-
-// All of work is walked; or work has at least beam items, and the best that is not walked is not strictly nearer than the worst.
-fn halts(work: &[f32], len: usize, beam: usize, done: usize) -> bool
-    requires { ⌜ len ≤ length (now work) ⌝ }
-    ensures { λ r. ⌜ r ≡ haltsF (now (work .entry)) len beam done ⌝ }
-{
-    if len <= done {
-        return true;
-    }
-    if len < beam {
-        return false;
-    }
-    let last = len - 1;
-    let at = last - done;
-    if work[at] < work[0] {
-        return false;
-    }
-    true
-}
-
-// The best that is not walked is walked from now on. Returns its id.
-fn pop(work: &mut [u32], w: usize, done: usize) -> u32
-    requires { ⌜ (w ≤ length (now work)) × (done < w) × (0 < getD (now work) (w - 1 - done) 0) ⌝ }
-    ensures { λ r. ⌜ (r ≡ getD (now (work .entry)) (w - 1 - done) 0 / 2)
-        × (now (work .exit) ≡ set (now (work .entry)) (w - 1 - done) (getD (now (work .entry)) (w - 1 - done) 0 - 1)) ⌝ }
-{
-    let last = w - 1;
-    let at = last - done;
-    let code = work[at];
-    work[at] = code - 1;
-    code / 2
+    let work = kept::meet(keys, p.beam, c.work, &fresh[0..count], &apart[0..count]);
+    let visited = c.visited + count;
+    Counts { visited, work }
 }
 
 // The row of one entry.
 fn step(
     words: &mut [u32],
-    floats: &mut [f32],
+    keys: &mut [u64],
+    fresh: &mut [u32],
+    apart: &mut [u32],
     vectors: &[u8],
     query: &[u8],
     table: &[u32],
@@ -214,22 +122,38 @@ fn step(
     id: u32,
     c: Counts,
 ) -> Counts
-    requires { ⌜ Ready p epoch (standing (now words) (now floats) c) ⌝ }
+    requires { ⌜ Ready p epoch (standing (now words) (now keys) c) ⌝ }
+    requires { ⌜ Live p epoch (standing (now words) (now keys) c) ⌝ }
     requires { ⌜ Ground p (now vectors) (now query) (now table) ⌝ }
-    requires { ⌜ id < p .n ⌝ }
-    ensures { λ r. ⌜ Moves p epoch (standing (now (words .entry)) (now (floats .entry)) c) (standing (now (words .exit)) (now (floats .exit)) r)
-        (λ st. expand (fromQuery (p .dim) (now (vectors .entry)) (now (query .entry))) (p .beam) st (row (p .width) (now (table .entry)) id)) ⌝ }
+    requires { ⌜ (id < p .n) × (length (now fresh) ≡ widest) × (length (now apart) ≡ widest) ⌝ }
+    ensures { λ r. ⌜ Moves p epoch (standing (now (words .entry)) (now (keys .entry)) c) (standing (now (words .exit)) (now (keys .exit)) r)
+        (λ st. expand (fromQuery (p .dim) (now (vectors .entry)) (now (query .entry))) (p .beam) st
+        (row (p .width) (cleaned (p .n) (now (table .entry))) id)) ⌝ }
 {
     let width = p.width;
     let from = id as usize * width;
     let to = from + width;
-    expand(words, floats, vectors, query, &table[from..to], p, epoch, c)
+    touch_next(keys, c.work, table, width, apart);
+    expand(
+        words,
+        keys,
+        fresh,
+        apart,
+        vectors,
+        query,
+        &table[from..to],
+        p,
+        epoch,
+        c,
+    )
 }
 
-// While the frontier has items: stop, or walk the row of the best.
+// While the frontier has an item to walk: the row of the best. Each turn walks another entry's row, so that n turns are enough.
 fn walk(
     words: &mut [u32],
-    floats: &mut [f32],
+    keys: &mut [u64],
+    fresh: &mut [u32],
+    apart: &mut [u32],
     vectors: &[u8],
     query: &[u8],
     table: &[u32],
@@ -237,122 +161,108 @@ fn walk(
     epoch: u32,
     c: Counts,
 ) -> Counts
-    requires { ⌜ Ready p epoch (standing (now words) (now floats) c) ⌝ }
-    requires { ⌜ Live p epoch (standing (now words) (now floats) c) ⌝ }
+    requires { ⌜ Ready p epoch (standing (now words) (now keys) c) ⌝ }
+    requires { ⌜ Live p epoch (standing (now words) (now keys) c) ⌝ }
     requires { ⌜ Ground p (now vectors) (now query) (now table) ⌝ }
-    ensures { λ r. ⌜ Moves p epoch (standing (now (words .entry)) (now (floats .entry)) c) (standing (now (words .exit)) (now (floats .exit)) r)
-        (λ st. steps (fromQuery (p .dim) (now (vectors .entry)) (now (query .entry))) (row (p .width) (now (table .entry))) (p .beam) (p .n) st) ⌝ }
+    requires { ⌜ (length (now fresh) ≡ widest) × (length (now apart) ≡ widest) ⌝ }
+    ensures { λ r. ⌜ Moves p epoch (standing (now (words .entry)) (now (keys .entry)) c) (standing (now (words .exit)) (now (keys .exit)) r)
+        (λ st. steps (fromQuery (p .dim) (now (vectors .entry)) (now (query .entry)))
+        (row (p .width) (cleaned (p .n) (now (table .entry)))) (p .beam) (p .n) st) ⌝ }
 {
-    let n = p.n;
-    let at = scratch::work_at(n);
-    let end = scratch::work_end(n);
-    let fend = scratch::work_dists_end(n);
     let mut s = c;
-    while 0 < s.frontier {
-        let d = next(&words[at..end], s.work, s.done);
-        if halts(&floats[n..fend], s.work, p.beam, d) {
+    let mut left = p.n;
+    while 0 < left {
+        let next = kept::pop(keys, p.beam, s.work);
+        if !next.found {
             break;
         }
-        let id = pop(&mut words[at..end], s.work, d);
         let t = Counts {
             visited: s.visited,
-            frontier: s.frontier - 1,
-            work: s.work,
-            done: d + 1,
+            work: Work {
+                len: s.work.len,
+                done: next.done,
+                bound: s.work.bound,
+            },
         };
-        s = step(words, floats, vectors, query, table, p, epoch, id, t);
+        s = step(
+            words,
+            keys,
+            fresh,
+            apart,
+            vectors,
+            query,
+            table,
+            p,
+            epoch,
+            next.id,
+            t,
+        );
+        left -= 1;
     }
     s
 }
 
-// From the start, which is visited and not yet met. With beam 0 work takes nothing in, and the start's row is walked all the same.
+// From the start, which is met: with beam 0 work took nothing in, and the start's row is walked all the same.
 fn from_start(
     words: &mut [u32],
-    floats: &mut [f32],
+    keys: &mut [u64],
+    fresh: &mut [u32],
+    apart: &mut [u32],
     vectors: &[u8],
     query: &[u8],
     table: &[u32],
     p: Plan,
     epoch: u32,
     start: u32,
-    dist: f32,
+    c: Counts,
 ) -> Counts
-    requires { ⌜ Arrived p epoch (lent (now words) (now floats)) (fromQuery (p .dim) (now vectors) (now query)) (entry start dist) ⌝ }
+    requires { ⌜ Ready p epoch (standing (now words) (now keys) c) ⌝ }
+    requires { ⌜ Live p epoch (standing (now words) (now keys) c) ⌝ }
     requires { ⌜ Ground p (now vectors) (now query) (now table) ⌝ }
-    requires { ⌜ start < p .n ⌝ }
-    ensures { λ r. ⌜ Reaches p epoch (lent (now (words .entry)) (now (floats .entry))) (standing (now (words .exit)) (now (floats .exit)) r)
-        (walkOf p (fromQuery (p .dim) (now (vectors .entry)) (now (query .entry))) (now (table .entry)) start) ⌝ }
+    requires { ⌜ (start < p .n) × (length (now fresh) ≡ widest) × (length (now apart) ≡ widest) ⌝ }
+    ensures { λ r. ⌜ Moves p epoch (standing (now (words .entry)) (now (keys .entry)) c) (standing (now (words .exit)) (now (keys .exit)) r)
+        (fromStart p (fromQuery (p .dim) (now (vectors .entry)) (now (query .entry))) (now (table .entry)) start) ⌝ }
 {
     if p.beam == 0 {
-        let c = Counts {
-            visited: 1,
-            frontier: 0,
-            work: 0,
-            done: 0,
-        };
-        return step(words, floats, vectors, query, table, p, epoch, start, c);
+        return step(
+            words,
+            keys,
+            fresh,
+            apart,
+            vectors,
+            query,
+            table,
+            p,
+            epoch,
+            start,
+            c,
+        );
     }
-    let at = push(words, floats, p, 0, start, dist);
-    let c = Counts {
-        visited: 1,
-        frontier: 1,
-        work: at.len,
-        done: 0,
-    };
-    walk(words, floats, vectors, query, table, p, epoch, c)
+    walk(
+        words,
+        keys,
+        fresh,
+        apart,
+        vectors,
+        query,
+        table,
+        p,
+        epoch,
+        c,
+    )
 }
 
-// Codes become ids again.
-fn plain(work: &mut [u32], w: usize)
-    requires { ⌜ w ≤ length (now work) ⌝ }
-    ensures { λ _. ⌜ now (work .exit) ≡ map (λ (c : ℕ). c / 2) (take w (now (work .entry))) ++ drop w (now (work .entry)) ⌝ }
-{
-    let mut i = 0;
-    while i < w {
-        work[i] = work[i] / 2;
-        i += 1;
-    }
-}
-
-// From the start, all that a walk visits and keeps, at an epoch that no mark has.
-fn collect(
-    words: &mut [u32],
-    floats: &mut [f32],
-    vectors: &[u8],
-    query: &[u8],
-    table: &[u32],
-    p: Plan,
-    epoch: u32,
-    start: u32,
-) -> Counts
-    requires { ⌜ Empty p epoch (lent (now words) (now floats)) ⌝ }
-    requires { ⌜ Ground p (now vectors) (now query) (now table) ⌝ }
-    requires { ⌜ start < p .n ⌝ }
-    ensures { λ r. ⌜ Collected p epoch (lent (now (words .entry)) (now (floats .entry))) (standing (now (words .exit)) (now (floats .exit)) r)
-        (walkOf p (fromQuery (p .dim) (now (vectors .entry)) (now (query .entry))) (now (table .entry)) start) ⌝ }
-{
-    let n = p.n;
-    let dist = metric::from_query(p.dim, vectors, query, start as usize);
-    marks::note(words, n, epoch, 0, start);
-    floats[0] = dist;
-    let s = from_start(words, floats, vectors, query, table, p, epoch, start, dist);
-    let at = scratch::work_at(n);
-    let end = scratch::work_end(n);
-    plain(&mut words[at..end], s.work);
-    s
-}
-
-// What a walk leaves: the epoch, and how many items the two lists have.
+// What a walk leaves: the epoch, and how many it visited and kept.
 pub struct Walked {
     pub epoch: u32,
     pub visited: usize,
     pub work: usize,
 }
 
-// A whole walk, on a scratch that earlier walks used.
+// A whole walk, on words that earlier walks used. `keys` is 256 free places, and is left with what work has. The start is met as the one entry of a row.
 pub fn greedy(
     words: &mut [u32],
-    floats: &mut [f32],
+    keys: &mut [u64],
     vectors: &[u8],
     query: &[u8],
     table: &[u32],
@@ -360,17 +270,49 @@ pub fn greedy(
     epoch: u32,
     start: u32,
 ) -> Walked
-    requires { ⌜ Room p epoch (lent (now words) (now floats)) ⌝ }
+    requires { ⌜ Room p epoch (now words) ⌝ }
+    requires { ⌜ now keys ≡ replicate 256 none ⌝ }
     requires { ⌜ Ground p (now vectors) (now query) (now table) ⌝ }
     requires { ⌜ start < p .n ⌝ }
-    ensures { λ r. ⌜ Walks p epoch (lent (now (words .entry)) (now (floats .entry))) (lent (now (words .exit)) (now (floats .exit))) r
+    ensures { λ r. ⌜ Walks p epoch (now (words .entry)) (now (words .exit)) (now (keys .exit)) r
         (walkOf p (fromQuery (p .dim) (now (vectors .entry)) (now (query .entry))) (now (table .entry)) start) ⌝ }
 {
-    let e = marks::next_epoch(words, p.n, epoch);
-    let c = collect(words, floats, vectors, query, table, p, e, start);
+    let mut fresh = [0u32; scratch::WIDEST];
+    let mut apart = [0u32; scratch::WIDEST];
+    let first = [start];
+    let n = p.n;
+    let e = marks::next_epoch(words, n, epoch);
+    words[n] = e;
+    let work = kept::empty(p.beam);
+    let none = Counts { visited: 0, work };
+    let c = expand(
+        words,
+        keys,
+        &mut fresh,
+        &mut apart,
+        vectors,
+        query,
+        &first,
+        p,
+        e,
+        none,
+    );
+    let s = from_start(
+        words,
+        keys,
+        &mut fresh,
+        &mut apart,
+        vectors,
+        query,
+        table,
+        p,
+        e,
+        start,
+        c,
+    );
     Walked {
         epoch: e,
-        visited: c.visited,
-        work: c.work,
+        visited: s.visited,
+        work: s.work.len,
     }
 }

@@ -1,129 +1,211 @@
--- One entry: it is marked, and nothing differs; or it is marked now and written behind the visited. As many marks as visited: so an unmarked entry finds room.
+-- One word more of a row. Where its mark is the epoch, nothing differs: it is an entry that was seen, or no entry at all. Else it is a new id.
 use mathlib.Core.Path.{_≡_, refl, sym, ap, _∙_, subst}
-use mathlib.Core.Bool.{Bool, true, false, _||_, or-true, or-false}
-use mathlib.Core.List.{List, [], _∷_, _++_, append-nil}
+use mathlib.Core.Bool.{Bool, true, false, cond, _||_, or-true, or-false}
+use mathlib.Core.List.{List, [], _∷_, _++_, append-nil, append-assoc}
 use Prim.Native.Nat.{ℕ, suc, _+_, _≤_, _<_}
 use native.Mathlib.Numerals.{add-one}
 use native.Mathlib.Omega.{arith}
-use borrow.Author.Tests.{eq-eqb, ne-eqb, eqb-true, eqb-false}
-use lib.Dec.{eqb}
+use borrow.Author.Tests.{eq-eqb, ne-eqb, eqb-true, eqb-false, lt-ltb, ltb-true, ltb-false}
+use lib.Dec.{eqb, ltb}
 use lib.ListN.{length, getD, take, set, length-set, length-append}
-use lib.Seq.{length-take-le, getD-take, getD-set-same, getD-set-other, take-suc-set, take-set-lt, take-set-le}
+use lib.Seq.{length-take-le, getD-take, getD-set-same, getD-set-other, set-getD, take-all, take-suc, take-suc-set, take-set-lt, take-set-le}
 use Rattle.definition.specs.Lists.{isIn}
-use Rattle.definition.specs.Tables.{pad}
-use Rattle.laws.specs.Parts.{Within, part-length, within-above, within-wider, within-trans, within-none, set-within, part-set}
-use Rattle.scratch.specs.Layout.{visitedAt, workAt}
-use Rattle.marks.specs.Marked.{log, visitedOf, count, Marked, Seen, Gathers}
-use Rattle.marks.specs.Counting.{count-lt, count-set, in-snoc}
-use Rattle.marks.specs.News.{news-old, news-new}
+use Rattle.definition.specs.Tables.{pad, cleaned}
+use Rattle.laws.specs.All.{All, all-more}
+use Rattle.laws.specs.Backwards.{map-append}
+use Rattle.laws.specs.Parts.{within-wider, within-trans, within-none, set-within}
+use Rattle.laws.specs.Truth.{decide}
+use Rattle.scratch.specs.Layout.{strayAt, visitedAt}
+use Rattle.marks.specs.Marked.{count, visitedOf, news, Marked, Seen, markOf, newOf, Notes, Gathers}
+use Rattle.marks.specs.Counting.{count-set, in-snoc}
+use Rattle.marks.specs.News.{news-pad, news-old, news-new, id-real, news-more}
 
-module _ (n epoch : ℕ) (words : List ℕ) (v : ℕ) (m : Marked n epoch (log words v)) (id : ℕ) (inside : id < n) where
-  -- ---- it is marked
-  pub note-old : getD words id 0 ≡ epoch → Gathers n epoch (log words v) (log words v) (id ∷ [])
-  note-old e =
-      record {
-        marked = m;
-        grow = omega arith;
-        seen = λ l s.
-            let none = news-old l id (sym (s .marks id inside) ∙ eq-eqb (getD words id 0) epoch e) in
-            subst (Seen n epoch (log words v)) (sym (ap (λ (z : List ℕ). l ++ z) none ∙ append-nil l)) s;
-        inside = λ j h k. absurd (omega arith);
-        ids-kept = refl;
-        kept = within-none 0 (workAt n) words;
-      }
+-- a word as a row that is cleaned has it
+abbrev clean : ℕ → ℕ → ℕ
+clean n w = cond (ltb w n) w pad
 
-  module _ (unmarked : getD words id 0 ≡ epoch → ⊥) where
+cleaned-more : (n : ℕ) (row : List ℕ) (w : ℕ) → cleaned n (row ++ (w ∷ [])) ≡ cleaned n row ++ (clean n w ∷ [])
+unfolding cleaned
+cleaned-more n row w = map-append (clean n) row (w ∷ [])
+
+-- a row is gathered; then comes the word w
+module _ {n epoch : ℕ} {words₀ words row fresh : List ℕ} {k : ℕ} (g : Gathers n epoch words₀ words row fresh k) (room : k < length fresh) (w : ℕ) where
+  abbrev at : ℕ
+  at = markOf n w
+
+  abbrev words₁ : List ℕ
+  words₁ = set words at epoch
+
+  abbrev fresh₁ : List ℕ
+  fresh₁ = set fresh k at
+
+  -- what was seen, with the new ids of the row
+  abbrev known : List ℕ → List ℕ
+  known seen = seen ++ news seen (cleaned n row)
+
+  news-are : (seen : List ℕ) → news seen (cleaned n (row ++ (w ∷ []))) ≡ news seen (cleaned n row) ++ news (known seen) (clean n w ∷ [])
+  news-are seen = ap (news seen) (cleaned-more n row w) ∙ news-more seen (cleaned n row) (clean n w ∷ [])
+
+  row-length : length (row ++ (w ∷ [])) ≡ length row + 1
+  row-length = length-append row (w ∷ [])
+
+  -- ---- its mark is the epoch
+  module _ (e : getD words at 0 ≡ epoch) where
+    none-new : (seen : List ℕ) → Seen n epoch words seen → news seen (clean n w ∷ []) ≡ []
+    none-new seen s = go (ltb w n) refl
+      where
+        go : (t : Bool) → ltb w n ≡ t → news seen (cond t w pad ∷ []) ≡ []
+        go false t = news-pad seen pad refl
+        go true t =
+            let h = ltb-true w n t in
+            let q : at ≡ w = omega arith in
+            news-old seen w (sym (s w h) ∙ eq-eqb (getD words w 0) epoch (ap (λ (z : ℕ). getD words z 0) (sym q) ∙ e))
+
+    no-more : (seen : List ℕ) → Seen n epoch words₀ seen → news seen (cleaned n (row ++ (w ∷ []))) ≡ news seen (cleaned n row)
+    no-more seen s =
+        news-are seen ∙ ap (λ (z : List ℕ). news seen (cleaned n row) ++ z) (none-new (known seen) (g .seen seen s)) ∙ append-nil (news seen (cleaned n row))
+
+    fresh-same : take k fresh₁ ≡ take k fresh
+    fresh-same = take-set-le k fresh k at (omega arith)
+
+    old-still : Gathers n epoch words₀ words (row ++ (w ∷ [])) fresh₁ k
+    old-still =
+        record {
+          marked = g .marked;
+          grow = g .grow;
+          few = omega (arith, g .few, row-length);
+          fresh-are = λ seen s. fresh-same ∙ g .fresh-are seen s ∙ sym (no-more seen s);
+          seen = λ seen s. subst (λ (l : List ℕ). Seen n epoch words (seen ++ l)) (sym (no-more seen s)) (g .seen seen s);
+          inside = subst (All (λ (i : ℕ). i < n)) (sym fresh-same) (g .inside);
+          kept = g .kept;
+        }
+
+    old-then : Gathers n epoch words₀ words₁ (row ++ (w ∷ [])) fresh₁ k
+    old-then =
+        subst (λ (l : List ℕ). Gathers n epoch words₀ l (row ++ (w ∷ [])) fresh₁ k) (sym (ap (set words at) (sym e) ∙ set-getD words at 0)) old-still
+
+  -- ---- it is not
+  module _ (unmarked : getD words at 0 ≡ epoch → ⊥) where
+    -- so it is an entry
+    entry : w < n
+    entry =
+        decide (ltb w n) (λ t. ltb-true w n t)
+        (λ f.
+        let h = ltb-false w n f in
+        let q : at ≡ strayAt n = omega arith in
+        absurd (unmarked (ap (λ (z : ℕ). getD words z 0) q ∙ g .marked .stray)))
+
+    at-is : at ≡ w
+    at-is = let h = entry in omega arith
+
     front : length (take n words) ≡ n
-    front = length-take-le n words (omega (arith, m .room))
+    front = length-take-le n words (omega (arith, g .marked .room))
 
-    unmarked' : getD (take n words) id 0 ≡ epoch → ⊥
-    unmarked' e = unmarked (sym (getD-take n words id 0 inside) ∙ e)
+    marks-are : take n words₁ ≡ set (take n words) at epoch
+    marks-are = take-set-lt n words at epoch (omega (arith, entry))
 
-    -- an unmarked entry is left, so not all were visited
-    pub unfull : v < n
-    unfull = omega (arith, front, m .marked, count-lt epoch (take n words) id (omega (arith, front)) unmarked')
+    counts : visitedOf n epoch words₁ ≡ suc (visitedOf n epoch words)
+    counts =
+        ap (count epoch) marks-are
+        ∙ count-set epoch (take n words) at (omega (arith, front, entry)) (λ e. unmarked (sym (getD-take n words at 0 (omega (arith, entry))) ∙ e))
 
-    -- ---- it is marked now
-    abbrev marks : List ℕ
-    marks = set words id epoch
+    own : getD words₁ at 0 ≡ epoch
+    own = getD-set-same words at epoch 0 (omega (arith, g .marked .room))
 
-    abbrev noted : List ℕ
-    noted = set marks (visitedAt n + v) id
+    other : (i : ℕ) → (i ≡ at → ⊥) → getD words₁ i 0 ≡ getD words i 0
+    other i h = getD-set-other words at i epoch 0 h
 
-    size : length marks ≡ length words
-    size = length-set words id epoch
-
-    marks-are : take n noted ≡ set (take n words) id epoch
-    marks-are = take-set-le n marks (visitedAt n + v) id (omega arith) ∙ take-set-lt n words id epoch inside
-
-    mark-at : (i : ℕ) → i < n → getD noted i 0 ≡ getD (set (take n words) id epoch) i 0
-    mark-at i h = sym (getD-take n noted i 0 h) ∙ ap (λ (z : List ℕ). getD z i 0) marks-are
-
-    mark-own : getD (set (take n words) id epoch) id 0 ≡ epoch
-    mark-own = getD-set-same (take n words) id epoch 0 (omega (arith, front))
-
-    mark-other : (i : ℕ) → i < n → (i ≡ id → ⊥) → getD (set (take n words) id epoch) i 0 ≡ getD words i 0
-    mark-other i h other = getD-set-other (take n words) id i epoch 0 other ∙ getD-take n words i 0 h
-
-    -- the ids with the one more
-    ids-set : visitedOf n noted ≡ set (visitedOf n words) v id
-    ids-set =
-        part-set marks (visitedAt n + v) id (visitedAt n) (workAt n) v refl (omega (arith, unfull))
-        ∙ ap (λ (z : List ℕ). set z v id) (within-above id (suc id) words marks (set-within words id epoch) (visitedAt n) (workAt n) (omega arith))
-
-    kept : Within 0 (workAt n) words noted
-    kept =
-        let at : ℕ = visitedAt n + v in
-        within-trans 0 (workAt n) words marks noted
-        (within-wider id (suc id) words marks (set-within words id epoch) 0 (workAt n) (omega arith) (omega arith))
-        (within-wider at (suc at) marks noted (set-within marks at id) 0 (workAt n) (omega arith) (omega (arith, unfull)))
-
-    marked : Marked n epoch (log noted (v + 1))
+    marked : Marked n epoch words₁
     marked =
         record {
-          nodes = m .nodes;
-          room = omega (arith, m .room, kept .size);
-          marked = ap (count epoch) marks-are ∙ count-set epoch (take n words) id (omega (arith, front)) unmarked' ∙ omega (arith, m .marked);
-          marks-le = λ i h. subst (λ (z : ℕ). z ≤ epoch) (sym (mark-at i h)) (go i h (eqb i id) refl);
+          nodes = g .marked .nodes;
+          room = omega (arith, g .marked .room, length-set words at epoch);
+          stray = other (strayAt n) (λ e. omega (arith, entry)) ∙ g .marked .stray;
+          marks-le = λ i h.
+              decide (eqb i at) (λ t. omega (arith, ap (λ (z : ℕ). getD words₁ z 0) (eqb-true i at t), own))
+              (λ f. omega (arith, other i (eqb-false i at f), g .marked .marks-le i h));
         }
+
+    seen-more : (seen : List ℕ) → Seen n epoch words seen → Seen n epoch words₁ (seen ++ (w ∷ []))
+    seen-more seen s i h = decide (eqb i w) yes no ∙ sym (in-snoc i seen w)
       where
-        go : (i : ℕ) → i < n → (t : Bool) → eqb i id ≡ t → getD (set (take n words) id epoch) i 0 ≤ epoch
-        go i h true e = omega (arith, ap (λ (z : ℕ). getD (set (take n words) id epoch) z 0) (eqb-true i id e), mark-own)
-        go i h false e = omega (arith, mark-other i h (eqb-false i id e), m .marks-le i h)
+        yes : eqb i w ≡ true → eqb (getD words₁ i 0) epoch ≡ (isIn i seen || eqb i w)
+        yes t =
+            eq-eqb (getD words₁ i 0) epoch (ap (λ (z : ℕ). getD words₁ z 0) (eqb-true i w t ∙ sym at-is) ∙ own) ∙ rw t (sym (or-true (isIn i seen)))
 
-    seen : (l : List ℕ) → Seen n epoch (log words v) l → Seen n epoch (log noted (v + 1)) (l ++ (id ∷ []))
-    seen l s =
-        record {
-          size = length-append l (id ∷ []) ∙ omega (arith, s .size);
-          marks = λ i h. ap (λ (z : ℕ). eqb z epoch) (mark-at i h) ∙ go i h (eqb i id) refl ∙ sym (in-snoc i l id);
-          ids-are =
-              ap (λ (k : ℕ). take k (visitedOf n noted)) (add-one v) ∙ ap (take (suc v)) ids-set
-              ∙ take-suc-set (visitedOf n words) v id (omega (arith, unfull, part-length (visitedAt n) (workAt n) words (m .room)))
-              ∙ ap (λ (z : List ℕ). z ++ (id ∷ [])) (s .ids-are);
-        }
-      where
-        go : (i : ℕ) → i < n → (t : Bool) → eqb i id ≡ t → eqb (getD (set (take n words) id epoch) i 0) epoch ≡ (isIn i l || eqb i id)
-        go i h true e =
-            ap (λ (z : ℕ). eqb (getD (set (take n words) id epoch) z 0) epoch) (eqb-true i id e) ∙ ap (λ (z : ℕ). eqb z epoch) mark-own
-            ∙ eq-eqb epoch epoch refl ∙ rw e (sym (or-true (isIn i l)))
-        go i h false e = ap (λ (z : ℕ). eqb z epoch) (mark-other i h (eqb-false i id e)) ∙ s .marks i h ∙ rw e (sym (or-false (isIn i l)))
+        no : eqb i w ≡ false → eqb (getD words₁ i 0) epoch ≡ (isIn i seen || eqb i w)
+        no f =
+            ap (λ (z : ℕ). eqb z epoch) (other i (λ e. eqb-false i w f (e ∙ at-is))) ∙ s i h ∙ rw f (sym (or-false (isIn i seen)))
 
-    real : id ≡ pad → ⊥
-    unfolding pad
-    real e = omega (arith, m .nodes)
+    one-new : (seen : List ℕ) → Seen n epoch words seen → news seen (clean n w ∷ []) ≡ w ∷ []
+    one-new seen s =
+        let q : getD words w 0 ≡ epoch → ⊥ = λ e. unmarked (ap (λ (z : ℕ). getD words z 0) at-is ∙ e) in
+        ap (λ (b : Bool). news seen (cond b w pad ∷ [])) (lt-ltb w n entry)
+        ∙ news-new seen w (id-real n w (g .marked .nodes) entry) (sym (s w entry) ∙ ne-eqb (getD words w 0) epoch q)
 
-    pub note-new : Gathers n epoch (log words v) (log (set (set words id epoch) (visitedAt n + v) id) (v + 1)) (id ∷ [])
-    note-new =
+    more : (seen : List ℕ) → Seen n epoch words₀ seen → news seen (cleaned n (row ++ (w ∷ []))) ≡ news seen (cleaned n row) ++ (w ∷ [])
+    more seen s = news-are seen ∙ ap (λ (z : List ℕ). news seen (cleaned n row) ++ z) (one-new (known seen) (g .seen seen s))
+
+    new-then : Gathers n epoch words₀ words₁ (row ++ (w ∷ [])) fresh₁ (suc k)
+    new-then =
         record {
           marked = marked;
-          grow = omega arith;
-          seen = λ l s.
-              let new = news-new l id real (sym (s .marks id inside) ∙ ne-eqb (getD words id 0) epoch unmarked) in
-              subst (λ (z : List ℕ). Seen n epoch (log noted (v + 1)) (l ++ z)) (sym new) (seen l s);
-          inside = λ j h k.
-              let q : visitedAt n + j ≡ visitedAt n + v = omega arith in
-              let own = getD-set-same marks (visitedAt n + v) id 0 (omega (arith, m .room, size, unfull)) in
-              subst (λ (z : ℕ). z < n) (sym (ap (λ (z : ℕ). getD noted z 0) q ∙ own)) inside;
-          ids-kept = ap (take v) ids-set ∙ take-set-le v (visitedOf n words) v id (omega arith);
-          kept = kept;
+          grow = omega (arith, counts, g .grow);
+          few = omega (arith, g .few, row-length);
+          fresh-are = λ seen s.
+              take-suc-set fresh k at room ∙ ap (λ (l : List ℕ). l ++ (at ∷ [])) (g .fresh-are seen s)
+              ∙ ap (λ (z : ℕ). news seen (cleaned n row) ++ (z ∷ [])) at-is ∙ sym (more seen s);
+          seen = λ seen s.
+              subst (Seen n epoch words₁) (append-assoc seen (news seen (cleaned n row)) (w ∷ []) ∙ ap (λ (l : List ℕ). seen ++ l) (sym (more seen s)))
+              (seen-more (known seen) (g .seen seen s));
+          inside = all-more (λ (i : ℕ). i < n) fresh k at room (g .inside) (omega (arith, entry));
+          kept =
+              within-trans 0 (visitedAt n) words₀ words words₁ (g .kept)
+              (within-wider at (suc at) words words₁ (set-within words at epoch) 0 (visitedAt n) (omega arith) (omega (arith, entry)));
         }
+
+  pub note-then : Gathers n epoch words₀ words₁ (row ++ (w ∷ [])) fresh₁ (k + newOf (getD words at 0) epoch)
+  note-then =
+      decide (eqb (getD words at 0) epoch)
+      (λ t. subst (Gathers n epoch words₀ words₁ (row ++ (w ∷ [])) fresh₁) (sym (count-is true t)) (old-then (eqb-true (getD words at 0) epoch t)))
+      (λ f. subst (Gathers n epoch words₀ words₁ (row ++ (w ∷ [])) fresh₁) (sym (count-is false f)) (new-then (eqb-false (getD words at 0) epoch f)))
+    where
+      count-is : (b : Bool) → eqb (getD words at 0) epoch ≡ b → k + newOf (getD words at 0) epoch ≡ cond b k (suc k)
+      count-is true e = ap (λ (b : Bool). k + cond b 0 1) e ∙ omega arith
+      count-is false e = ap (λ (b : Bool). k + cond b 0 1) e ∙ omega arith
+
+-- ---- one word as the code notes it: `at` is the place of its mark
+pub noted : {n epoch word : ℕ} (words fresh : List ℕ) (len : ℕ) {at new : ℕ} → at ≡ markOf n word → new ≡ newOf (getD words at 0) epoch
+    → Notes n epoch word words (set words at epoch) fresh (set fresh len at) len (len + new)
+noted {n} {epoch} {word} words fresh len {at} {new} e q =
+    record {
+      marks-are = ap (λ (i : ℕ). set words i epoch) e;
+      fresh-are = ap (set fresh len) e;
+      is = ap (λ (i : ℕ). len + i) (q ∙ ap (λ (i : ℕ). newOf (getD words i 0) epoch) e);
+    }
+
+-- ---- the loop of `gather`, where the first k words are gathered
+pub gather-none : {n epoch : ℕ} {words : List ℕ} (fresh : List ℕ) → Marked n epoch words → Gathers n epoch words words [] fresh 0
+unfolding news cleaned
+gather-none {n} {epoch} {words} fresh m =
+    record {
+      marked = m;
+      grow = omega arith;
+      few = omega arith;
+      fresh-are = λ seen s. refl;
+      seen = λ seen s. subst (Seen n epoch words) (sym (append-nil seen)) s;
+      inside = tt;
+      kept = within-none 0 (visitedAt n) words;
+    }
+
+module _ {n epoch : ℕ} {words₀ words fresh : List ℕ} {len : ℕ} (row : List ℕ) (k : ℕ) (g : Gathers n epoch words₀ words (take k row) fresh len) where
+  -- there is room for one more
+  pub gather-fits : k < length row → len < length row
+  gather-fits h = omega (arith, g .few, length-take-le k row (omega arith))
+
+  pub gather-more : {words₁ fresh₁ : List ℕ} {r : ℕ} → k < length row → len < length fresh → Notes n epoch (getD row k 0) words words₁ fresh fresh₁ len r
+      → Gathers n epoch words₀ words₁ (take (k + 1) row) fresh₁ r
+  gather-more h room q = rw (q .marks-are, q .fresh-are, q .is, add-one k, take-suc row k 0 h) (note-then g room (getD row k 0))
+
+  pub gather-end : length row ≤ k → Gathers n epoch words₀ words row fresh len
+  gather-end h = subst (λ (l : List ℕ). Gathers n epoch words₀ words l fresh len) (take-all k row h) g

@@ -2,7 +2,8 @@
 use mathlib.Core.Path.{_≡_, refl, sym, ap, _∙_}
 use mathlib.Core.Bool.{Bool, true, false, _||_, cond}
 use mathlib.Core.List.{List, [], _∷_, _++_, append-nil}
-use Prim.Native.Nat.{ℕ}
+use Prim.Native.Nat.{ℕ, _≤_, _<_}
+use native.Mathlib.Omega.{arith}
 use borrow.Author.Tests.{eq-eqb, ne-eqb}
 use lib.Dec.{eqb}
 use lib.Seq.{append-snoc}
@@ -27,6 +28,11 @@ module _ (l : List ℕ) (x : ℕ) where
   pub news-new : (x ≡ pad → ⊥) → isIn x l ≡ false → news l (x ∷ []) ≡ x ∷ []
   unfolding news
   news-new real e = rw (ne-eqb x pad real, e) refl
+
+-- an id is no padding
+pub id-real : (n x : ℕ) → n ≤ 65536 → x < n → x ≡ pad → ⊥
+unfolding pad
+id-real n x h k e = omega arith
 
 pub news-one : (x : ℕ) → (x ≡ pad → ⊥) → news [] (x ∷ []) ≡ x ∷ []
 unfolding isIn

@@ -1,11 +1,10 @@
-// Part 3. Marks: an entry is visited where its mark is the epoch. Beside them, in the order of their visits, the ids of the visited.
-// In the words the marks lie from 0 on, the ids from n on (crate scratch).
+// Part 3. Marks: an entry is visited where its mark is the epoch. They lie from 0 on in the words, and word n is one mark more, of what is no entry: it is
+// the epoch in every walk, so that no word of a row needs a test of its own (crate scratch says where all lies).
 
-ghost use mathlib.Core.List.{[], _∷_};
+ghost use mathlib.Core.Path.{_≡_};
 ghost use Prim.Native.Nat.{_≤_, _<_};
 ghost use lib.ListN.{length};
-ghost use Rattle.laws.specs.Words.{Searchable};
-ghost use Rattle.marks.specs.Marked.{log, Marks, Marked, Gathers, NextEpoch};
+ghost use Rattle.marks.specs.Marked.{Marks, Marked, markOf, newOf, Notes, Gathers, NextEpoch};
 
 // The epoch after which epochs wrap.
 const LAST_EPOCH: u32 = 0xFFFFFFFF;
@@ -22,36 +21,45 @@ pub fn next_epoch(words: &mut [u32], n: usize, epoch: u32) -> u32
     epoch + 1
 }
 
-// One entry, skipped where it is marked; else marked, and written behind the v visited. Returns how many they are now.
-pub fn note(words: &mut [u32], n: usize, epoch: u32, v: usize, id: u32) -> usize
-    requires { ⌜ Marked n epoch (log (now words) v) ⌝ }
-    requires { ⌜ id < n ⌝ }
-    ensures { λ r. ⌜ Gathers n epoch (log (now (words .entry)) v) (log (now (words .exit)) r) (id ∷ []) ⌝ }
+// The place of a word's mark: n for what is no entry.
+fn mark_of(n: u32, word: u32) -> u32
+    ensures { λ r. ⌜ r ≡ markOf n word ⌝ }
 {
-    let i = id as usize;
-    if words[i] == epoch {
-        return v;
-    }
-    let at = n + v;
-    words[i] = epoch;
-    words[at] = id;
-    v + 1
+    if word < n { word } else { n }
 }
 
-// The new ids of a row, in order; padding is skipped wherever it stands.
-pub fn gather(words: &mut [u32], n: usize, epoch: u32, v: usize, ids: &[u32]) -> usize
-    requires { ⌜ Marked n epoch (log (now words) v) ⌝ }
-    requires { ⌜ Searchable n (now ids) ⌝ }
-    ensures { λ r. ⌜ Gathers n epoch (log (now (words .entry)) v) (log (now (words .exit)) r) (now (ids .entry)) ⌝ }
+// 0 if a mark is the epoch, else 1: a number, so that nothing branches on it.
+fn is_new(mark: u32, epoch: u32) -> usize
+    ensures { λ r. ⌜ (r ≡ newOf mark epoch) × (r ≤ 1) ⌝ }
 {
-    let mut seen = v;
+    if mark == epoch { 0 } else { 1 }
+}
+
+// One word of a row: its mark is set, and it is written behind the `count` new ids. It is one of them where it was not marked.
+fn note(words: &mut [u32], n: u32, epoch: u32, word: u32, fresh: &mut [u32], count: usize) -> usize
+    requires { ⌜ Marked n epoch (now words) ⌝ }
+    requires { ⌜ count < length (now fresh) ⌝ }
+    ensures { λ r. ⌜ Notes n epoch word (now (words .entry)) (now (words .exit)) (now (fresh .entry)) (now (fresh .exit)) count r ⌝ }
+{
+    let entry = mark_of(n, word);
+    let i = entry as usize;
+    let new = is_new(words[i], epoch);
+    words[i] = epoch;
+    fresh[count] = entry;
+    count + new
+}
+
+// The new ids of a row, in order; what is no entry is skipped wherever it stands. Returns how many they are.
+pub fn gather(words: &mut [u32], n: u32, epoch: u32, row: &[u32], fresh: &mut [u32]) -> usize
+    requires { ⌜ Marked n epoch (now words) ⌝ }
+    requires { ⌜ length (now row) ≤ length (now fresh) ⌝ }
+    ensures { λ r. ⌜ Gathers n epoch (now (words .entry)) (now (words .exit)) (now (row .entry)) (now (fresh .exit)) r ⌝ }
+{
+    let mut count = 0;
     let mut k = 0;
-    while k < ids.len() {
-        let id = ids[k];
-        if id != table::PADDING {
-            seen = note(words, n, epoch, seen, id);
-        }
+    while k < row.len() {
+        count = note(words, n, epoch, row[k], fresh, count);
         k += 1;
     }
-    seen
+    count
 }

@@ -13,10 +13,11 @@ use Rattle.definition.specs.Floats.{nought}
 use Rattle.definition.specs.Medoid.{scoreFrom, score, challenge, leader, medoid}
 
 -- ---- score
-pub score-turn : (pair : ℕ → ℕ → ℕ) (pivots : List ℕ) (i j : ℕ) (total x : Float) → j < length pivots → x ≡ whole (pair i (getD pivots j 0))
-    → scoreFrom (pair i) total (drop j pivots) ≡ score pair pivots i → scoreFrom (pair i) (add binary32 total x) (drop (j + 1) pivots) ≡ score pair pivots i
+pub score-turn : (pair : ℕ → ℕ → ℕ) (pivots : List ℕ) (i j : ℕ) (total : Float) (d : ℕ) → j < length pivots → d ≡ pair i (getD pivots j 0)
+    → scoreFrom (pair i) total (drop j pivots) ≡ score pair pivots i
+    → scoreFrom (pair i) (add binary32 total (whole d)) (drop (j + 1) pivots) ≡ score pair pivots i
 unfolding scoreFrom
-score-turn pair pivots i j total x l e h = sym (rw (drop-cons pivots j 0 l, add-one j, e) refl) ∙ h
+score-turn pair pivots i j total d l e h = sym (rw (drop-cons pivots j 0 l, add-one j, e) refl) ∙ h
 
 pub score-end : (pair : ℕ → ℕ → ℕ) (pivots : List ℕ) (i j : ℕ) (total : Float) → length pivots ≤ j
     → scoreFrom (pair i) total (drop j pivots) ≡ score pair pivots i → total ≡ score pair pivots i

@@ -17,7 +17,7 @@ fn score(n: usize, dim: usize, vectors: &[u8], pivots: &[u32], i: usize) -> f32
     let mut j = 0;
     while j < pivots.len() {
         let p = pivots[j] as usize;
-        total = total + metric::between(dim, vectors, i, p);
+        total = total + metric::between(dim, vectors, i, p) as f32;
         j += 1;
     }
     total

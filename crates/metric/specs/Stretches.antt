@@ -1,11 +1,11 @@
--- What a stretch of two vectors adds to their distance, as the loops go through them.
-use mathlib.Core.Path.{_≡_, sym, _∙_, subst}
-use mathlib.Core.List.{List}
-use Prim.Native.Nat.{ℕ, _+_, _≤_, _<_}
+-- What a stretch of two vectors adds to their distance, as the loops go through them, and the eight sums that it is added to.
+use mathlib.Core.Path.{_≡_, refl, sym, _∙_, subst}
+use mathlib.Core.List.{List, [], _∷_}
+use Prim.Native.Nat.{ℕ, zero, suc, _+_, _≤_, _<_}
 use native.Mathlib.Nat.{le-refl, add-zero, zero-add}
 use native.Mathlib.Numerals.{add-one}
 use native.Mathlib.Omega.{arith}
-use lib.ListN.{length, getD, drop, length-drop, drop-of-length-le}
+use lib.ListN.{length, getD, set, drop, replicate, length-set, length-drop, drop-of-length-le}
 use lib.Seq.{drop-cons}
 use Rattle.definition.specs.Metric.{squared, summed, metric}
 use Rattle.whole.specs.Whole.{farthest}
@@ -21,6 +21,37 @@ pub record Stretch (a b : List ℕ) (from to : ℕ) : Type 0 where
 -- r is what that stretch adds: with what the samples after it add, it is what those from its start on add
 pub record Adds (a b : List ℕ) (from to r : ℕ) : Type 0 where
   pub is : r + metric (drop to a) (drop to b) ≡ metric (drop from a) (drop from b)
+
+-- what some sums come to
+unfoldable pub total : List ℕ → ℕ
+total [] = 0
+total (s ∷ sums) = s + total sums
+
+-- eight sums: together they are what the samples before `at` add
+pub record Eight (a b : List ℕ) (at : ℕ) (sums : List ℕ) : Type 0 where
+  pub eight : length sums ≡ 8
+  pub together : Adds a b 0 at (total sums)
+
+-- ---- sums: one that grows, none more than all, those from a place on
+pub total-more : (sums : List ℕ) (j x : ℕ) → j < length sums → total (set sums j (getD sums j 0 + x)) ≡ total sums + x
+unfolding total
+total-more [] j x h = absurd (omega arith)
+total-more (s ∷ sums) zero x h = omega arith
+total-more (s ∷ sums) (suc j) x h = let k = total-more sums j x (omega arith) in omega arith
+
+pub sum-total : (sums : List ℕ) (j : ℕ) → getD sums j 0 ≤ total sums
+unfolding total
+sum-total [] j = omega arith
+sum-total (s ∷ sums) zero = omega arith
+sum-total (s ∷ sums) (suc j) = let k = sum-total sums j in omega arith
+
+pub total-from : (sums : List ℕ) (j : ℕ) → j < length sums → getD sums j 0 + total (drop (j + 1) sums) ≡ total (drop j sums)
+unfolding total
+total-from sums j h = rw (add-one j, drop-cons sums j 0 h)
+
+pub total-end : (sums : List ℕ) (j : ℕ) → length sums ≤ j → total (drop j sums) ≡ 0
+unfolding total
+total-end sums j h = rw (drop-of-length-le sums h)
 
 -- ---- stretches of two vectors: an empty one, one sample, two that meet, and all
 pub adds-none : (a b : List ℕ) (i : ℕ) → Adds a b i i 0
@@ -42,3 +73,16 @@ adds-small a b from to r p q h e =
     let l = length-drop from a in
     let k = good-most byte-metric (drop from a) (drop from b) (omega arith) (bytes-drop from a p) (bytes-drop from b q) in
     omega (arith, e .is)
+
+-- ---- eight sums: at the start, and after a sample more
+pub eight-none : (a b : List ℕ) → Eight a b 0 (replicate 8 0)
+unfolding total
+eight-none a b = record { eight = refl; together = adds-none a b 0 }
+
+pub eight-more : (a b : List ℕ) (i : ℕ) (sums : List ℕ) (j x : ℕ) → Eight a b i sums → j < 8 → Adds a b i (i + 1) x
+    → Eight a b (i + 1) (set sums j (getD sums j 0 + x))
+eight-more a b i sums j x e h p =
+    record {
+      eight = length-set sums j (getD sums j 0 + x) ∙ e .eight;
+      together = rw (total-more sums j x (omega (arith, e .eight))) (adds-join a b 0 i (i + 1) (total sums) x (e .together) p);
+    }

@@ -1,58 +1,45 @@
--- The quotient on whole numbers, and the loop that shades: the factors shaded from place j on are, at every turn, what they are to become.
-use mathlib.Core.Path.{_≡_, refl, sym, ap, ap₂, _∙_, subst}
+-- The loop that shades: the factors shaded from place j on are, at every turn, what they are to become.
+use mathlib.Core.Path.{_≡_, refl, sym, ap, _∙_, subst}
 use mathlib.Core.Bool.{true, false}
 use mathlib.Core.List.{List, append-assoc}
-use Prim.Native.Nat.{ℕ, zero, suc, _+_, _≤_, _<_}
+use Prim.Native.Nat.{ℕ, suc, _+_, _≤_, _<_}
 use native.Mathlib.Numerals.{add-one}
 use native.Mathlib.Omega.{arith}
-use borrow.Author.Tests.{ne-eqb}
 use lib.Ieee.{Float, nan, lt}
 use lib.ListN.{length, getD, set, length-set, take-append-drop, drop-of-length-le}
 use lib.Seq.{take-suc-set, drop-set-lt, drop-cons, set-getD}
 use Rattle.definition.specs.Beam.{Item, item}
-use Rattle.definition.specs.Metric.{whole, vector, fromQuery, between}
+use Rattle.definition.specs.Metric.{vector, fromQuery, between}
 use Rattle.definition.specs.Floats.{larger, above}
 use Rattle.definition.specs.Prune.{quotient, shade, shadeAll}
-use Rattle.whole.specs.Whole.{limit, count, IsWhole}
-use Rattle.whole.specs.Quotient.{zero-test}
 use Rattle.metric.specs.Exact.{Exact}
 use Rattle.theory.specs.Metric.{between-from, between-sym}
-use Rattle.prune_items.specs.Items.{itemsOf}
-use Rattle.prune_items.specs.Held.{items-at, items-length}
-use Rattle.laws.specs.All.{all-at}
-use Rattle.prune.specs.Says.{quotientF, Measurable, shadedFrom, Shaded}
-
-quotient-is : (a p : ℕ) → p ≤ limit → quotientF (whole a) (whole p) ≡ quotient a p
-unfolding quotientF quotient
-quotient-is a zero h = rw (zero-test 0 h) refl
-quotient-is a (suc p) h = rw (zero-test (suc p) h, ne-eqb (suc p) 0 (λ e. omega arith)) refl
+use Rattle.laws.specs.Paired.{itemsOf, items-at, items-length}
+use Rattle.prune.specs.Says.{Measurable, shadedFrom, Shaded}
 
 -- the distance from the taken entry's vector is the distance to the taken entry
-exact-between : (dim : ℕ) (vectors query : List ℕ) (taken i : ℕ) (r : Float) → query ≡ vector dim vectors taken → Exact (fromQuery dim vectors query i) r
+exact-between : (dim : ℕ) (vectors query : List ℕ) (taken i r : ℕ) → query ≡ vector dim vectors taken → Exact (fromQuery dim vectors query i) r
     → Exact (between dim vectors i taken) r
 exact-between dim vectors query taken i r q e =
     subst (λ (d : ℕ). Exact d r) (ap (λ (v : List ℕ). fromQuery dim vectors v i) q ∙ sym (between-from dim vectors taken i) ∙ between-sym dim vectors taken i) e
 
 module _ (dim : ℕ) (vectors : List ℕ) (target : Float) (taken : ℕ) where
-  shade-below : (i : ℕ) (d apart factor : Float) → IsWhole d → Exact (between dim vectors i taken) apart → lt target factor ≡ false
-      → shade (between dim vectors) target taken (item (count d) i) factor ≡ larger factor (quotientF d apart)
+  shade-below : (c : Item) (apart : ℕ) (factor : Float) → apart ≡ between dim vectors (c .id) taken → lt target factor ≡ false
+      → shade (between dim vectors) target taken c factor ≡ larger factor (quotient (c .dist) apart)
   unfolding shade above
-  shade-below i d apart factor w b t =
-      let q : quotientF (whole (count d)) (whole (between dim vectors i taken)) ≡ quotient (count d) (between dim vectors i taken) =
-      quotient-is (count d) (between dim vectors i taken) (omega (arith, b .small)) in
-      rw t (ap (larger factor) (sym q ∙ ap₂ quotientF (sym (w .is)) (sym (b .is))))
+  shade-below c apart factor e t = rw (t, e) refl
 
   shade-above : (c : Item) (factor : Float) → lt target factor ≡ true → shade (between dim vectors) target taken c factor ≡ factor
   unfolding shade above
   shade-above c factor t = rw t refl
 
-  module _ (ids : List ℕ) (dists : List Float) (same : length ids ≡ length dists) (fs : List Float) (all : length fs ≡ length ids) (j : ℕ) where
+  module _ (ids dists : List ℕ) (same : length ids ≡ length dists) (fs : List Float) (all : length fs ≡ length ids) (j : ℕ) where
     -- the factors shaded from a place on
     abbrev shaded : ℕ → List Float → List Float
     shaded from fs = shadedFrom dim vectors ids dists target taken from fs
 
     abbrev here : Item
-    here = item (count (getD dists j nan)) (getD ids j 0)
+    here = item (getD dists j 0) (getD ids j 0)
 
     shaded-turn : j < length ids → (v : Float) → v ≡ shade (between dim vectors) target taken here (getD fs j nan) → shaded (j + 1) (set fs j v) ≡ shaded j fs
     unfolding shadedFrom shadeAll
@@ -80,31 +67,28 @@ module _ (dim : ℕ) (vectors : List ℕ) (target : Float) (taken : ℕ) where
         rw (drop-of-length-le (itemsOf ids dists) n) (take-append-drop j fs)
 
 -- ---- the loop: whichever entry it is whose vector is the query
-pub record Shading (dim : ℕ) (vectors query ids : List ℕ) (dists : List Float) (target : Float) (from : ℕ) (fs₀ fs : List Float) (j : ℕ) : Type 0 where
+pub record Shading (dim : ℕ) (vectors query ids dists : List ℕ) (target : Float) (from : ℕ) (fs₀ fs : List Float) (j : ℕ) : Type 0 where
   pub le : j ≤ length ids
   pub nf : length fs ≡ length ids
   pub are : (taken : ℕ) → query ≡ vector dim vectors taken
       → shadedFrom dim vectors ids dists target taken j fs ≡ shadedFrom dim vectors ids dists target taken from fs₀
 
-module _ {dim : ℕ} {vectors query ids : List ℕ} {dists : List Float} {target : Float} {from : ℕ} {fs₀ : List Float} where
+module _ {dim : ℕ} {vectors query ids dists : List ℕ} {target : Float} {from : ℕ} {fs₀ : List Float} where
   pub shading-start : length fs₀ ≡ length ids → from ≤ length ids → Shading dim vectors query ids dists target from fs₀ fs₀ from
   shading-start nf le = record { le = le; nf = nf; are = λ taken q. refl }
 
   module _ {fs : List Float} {j : ℕ} (m : Measurable dim vectors ids dists) (s : Shading dim vectors query ids dists target from fs₀ fs j) where
-    pub shading-raise : j < length ids → {apart v : Float} → Exact (fromQuery dim vectors query (getD ids j 0)) apart → lt target (getD fs j nan) ≡ false
-        → v ≡ larger (getD fs j nan) (quotientF (getD dists j nan) apart) → Shading dim vectors query ids dists target from fs₀ (set fs j v) (j + 1)
+    pub shading-raise : j < length ids → {apart : ℕ} {v : Float} → Exact (fromQuery dim vectors query (getD ids j 0)) apart → lt target (getD fs j nan) ≡ false
+        → v ≡ larger (getD fs j nan) (quotient (getD dists j 0) apart) → Shading dim vectors query ids dists target from fs₀ (set fs j v) (j + 1)
     shading-raise h {apart} {v} x t e =
-        let i = getD ids j 0 in
-        let d = getD dists j nan in
-        let factor = getD fs j nan in
-        let w : IsWhole d = all-at IsWhole nan dists (m .wholes) j (omega (arith, m .same)) in
+        let c = item (getD dists j 0) (getD ids j 0) in
         record {
           le = omega arith;
           nf = length-set fs j v ∙ s .nf;
           are = λ taken q.
-              let to = exact-between dim vectors query taken i apart q x in
-              shaded-turn dim vectors target taken ids dists (m .same) fs (s .nf) j h v (e ∙ sym (shade-below dim vectors target taken i d apart factor w to t))
-              ∙ s .are taken q;
+              let to = exact-between dim vectors query taken (c .id) apart q x in
+              let below = shade-below dim vectors target taken c apart (getD fs j nan) (to .is) t in
+              shaded-turn dim vectors target taken ids dists (m .same) fs (s .nf) j h v (e ∙ sym below) ∙ s .are taken q;
         }
 
     pub shading-skip : j < length ids → lt target (getD fs j nan) ≡ true → Shading dim vectors query ids dists target from fs₀ fs (j + 1)

@@ -15,24 +15,22 @@ use Rattle.definition.specs.Metric.{between}
 use Rattle.definition.specs.Floats.{largest, above, one}
 use Rattle.definition.specs.Prune.{rounds, shadeAll, nextAlpha, targetOf, mostRounds}
 use Rattle.laws.specs.Truth.{either}
-use Rattle.whole.specs.Whole.{count}
-use Rattle.prune_items.specs.Items.{itemsOf}
-use Rattle.prune_items.specs.Held.{items-at, items-length}
+use Rattle.laws.specs.Paired.{itemsOf, items-at, items-length}
 use Rattle.prune.specs.Says.{shadedFrom, roundsOf, Taken}
 use Rattle.prune.proofs.Walking.{onward, onward-start, onward-skip, onward-take, onward-end, onward-full}
 
 -- what a round takes from place i on, with room for so many, and the rounds after it
-abbrev still : (dim : ℕ) (vectors ids : List ℕ) (dists : List Float) (target : Float) (fuel : ℕ) (current : Float) (room : ℕ) (fs : List Float) (i : ℕ) → List ℕ
+abbrev still : (dim : ℕ) (vectors ids dists : List ℕ) (target : Float) (fuel : ℕ) (current : Float) (room : ℕ) (fs : List Float) (i : ℕ) → List ℕ
 still dim vectors ids dists target fuel current room fs i = onward (between dim vectors) target fuel current room (itemsOf ids dists) fs i
 
 -- what stands in the row once the round is over that began with these factors and this row, and the rounds after it
-abbrev pub fromRound : (dim : ℕ) (vectors ids : List ℕ) (dists : List Float) (target current : Float) (degree round : ℕ) (fs : List Float) (row : List ℕ)
+abbrev pub fromRound : (dim : ℕ) (vectors ids dists : List ℕ) (target current : Float) (degree round : ℕ) (fs : List Float) (row : List ℕ)
     (taken : ℕ) → List ℕ
 fromRound dim vectors ids dists target current degree round fs row taken =
     take taken row ++ still dim vectors ids dists target (8 - round) current (degree - taken) fs 0
 
 -- within a round
-pub record Walk (dim : ℕ) (vectors ids : List ℕ) (dists : List Float) (target : Float) (fuel : ℕ) (current : Float) (degree : ℕ) (all : List ℕ) (size : ℕ)
+pub record Walk (dim : ℕ) (vectors ids dists : List ℕ) (target : Float) (fuel : ℕ) (current : Float) (degree : ℕ) (all : List ℕ) (size : ℕ)
     (fs : List Float) (row : List ℕ) (taken i : ℕ) : Type 0 where
   pub le : i ≤ length ids
   pub few : taken ≤ degree
@@ -41,7 +39,7 @@ pub record Walk (dim : ℕ) (vectors ids : List ℕ) (dists : List Float) (targe
   pub is : take taken row ++ still dim vectors ids dists target fuel current (degree - taken) fs i ≡ all
 
 -- between rounds
-pub record Going (dim : ℕ) (vectors ids : List ℕ) (dists : List Float) (target : Float) (degree : ℕ) (all : List ℕ) (size : ℕ)
+pub record Going (dim : ℕ) (vectors ids dists : List ℕ) (target : Float) (degree : ℕ) (all : List ℕ) (size : ℕ)
     (fs : List Float) (row : List ℕ) (current : Float) (taken round : ℕ) : Type 0 where
   pub before : round < 9
   pub few : taken ≤ degree
@@ -49,13 +47,13 @@ pub record Going (dim : ℕ) (vectors ids : List ℕ) (dists : List Float) (targ
   pub nr : length row ≡ size
   pub is : take taken row ++ rounds (between dim vectors) target (9 - round) current (degree - taken) (itemsOf ids dists) fs ≡ all
 
-pub going-first : {dim : ℕ} {vectors ids : List ℕ} {dists : List Float} {target : Float} {degree : ℕ} (alpha : Float) (fs : List Float) (row : List ℕ)
+pub going-first : {dim : ℕ} {vectors ids dists : List ℕ} {target : Float} {degree : ℕ} (alpha : Float) (fs : List Float) (row : List ℕ)
     → target ≡ targetOf alpha → length fs ≡ length ids
     → Going dim vectors ids dists target degree (roundsOf dim vectors ids dists degree alpha fs) (length row) fs row (ofBits binary32 0x3F800000) 0 0
 unfolding roundsOf mostRounds one
 going-first {degree = degree} alpha fs row e nf = record { before = omega arith; few = omega arith; nf = nf; nr = refl; is = rw (sub-zero degree, e) refl }
 
-module _ {dim : ℕ} {vectors ids : List ℕ} {dists : List Float} {target : Float} {degree : ℕ} where
+module _ {dim : ℕ} {vectors ids dists : List ℕ} {target : Float} {degree : ℕ} where
   pub walk-same : {fuel : ℕ} {current : Float} {all : List ℕ} {size : ℕ} {fs fs′ : List Float} {row row′ : List ℕ} {taken taken′ i : ℕ}
       → fs ≡ fs′ → row ≡ row′ → taken ≡ taken′ → Walk dim vectors ids dists target fuel current degree all size fs′ row′ taken′ i
       → Walk dim vectors ids dists target fuel current degree all size fs row taken i
@@ -76,7 +74,7 @@ module _ {dim : ℕ} {vectors ids : List ℕ} {dists : List Float} {target : Flo
 
     -- the item here
     abbrev here : Item
-    here = item (count (getD dists i nan)) (getD ids i 0)
+    here = item (getD dists i 0) (getD ids i 0)
 
     at : drop i cs ≡ here ∷ drop (suc i) cs
     at = items-at i ids dists h (omega arith)

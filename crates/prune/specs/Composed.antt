@@ -11,11 +11,10 @@ use Rattle.definition.specs.Lists.{sort, isIn}
 use Rattle.definition.specs.Beam.{Item, nearer}
 use Rattle.definition.specs.Metric.{between}
 use Rattle.definition.specs.Prune.{unseen, cut, candidates, prunedFrom, prune}
-use Rattle.whole.specs.Whole.{IsWhole}
+use Rattle.whole.specs.Whole.{limit}
 use Rattle.metric.specs.Exact.{VectorIn}
-use Rattle.prune_items.specs.Items.{itemsOf}
 use Rattle.laws.specs.All.{All, all-take}
-use Rattle.prune_items.specs.Held.{items-ids, ids-items}
+use Rattle.laws.specs.Paired.{itemsOf, items-ids, ids-items}
 use Rattle.prune_items.specs.Sorting.{all-sort}
 use Rattle.prune_pool.specs.Says.{Distinct, Pool, Chosen}
 use Rattle.table.specs.Rows.{Written}
@@ -34,31 +33,39 @@ all-candidates : (P : Item → Type 0) (node : ℕ) (l : List Item) → All P l 
 unfolding candidates
 all-candidates P node l a = all-fresh P (node ∷ []) (take cut (sort nearer l)) (all-take P cut (sort nearer l) (all-sort P l a))
 
-pub as-pool : {dim : ℕ} {vectors ids : List ℕ} {dists : List Float} → Measurable dim vectors ids dists → Pool ids dists
-as-pool m = record { same = m .same; wholes = m .wholes }
+pub as-pool : {dim : ℕ} {vectors ids dists : List ℕ} → Measurable dim vectors ids dists → Pool ids dists
+as-pool m = record { same = m .same; small = m .small }
 
-module _ (dim : ℕ) (vectors ids : List ℕ) (dists : List Float) (node : ℕ) (m : Measurable dim vectors ids dists) (apart : Distinct ids) (ci : List ℕ) (cd : List Float) (r : ℕ) (ch : Chosen ids dists node ci cd r) (ni : 750 ≤ length ci) (nd : 750 ≤ length cd) where
+module _ (dim : ℕ) (vectors ids dists : List ℕ) (node : ℕ) (m : Measurable dim vectors ids dists) (apart : Distinct ids) (ci cd : List ℕ) (r : ℕ)
+    (ch : Chosen ids dists node ci cd r) (ni : 750 ≤ length ci) (nd : 750 ≤ length cd) where
+  -- the first r of a list, as they are lent
+  abbrev front : List ℕ → List ℕ
+  front l = take (r - 0) (drop 0 l)
+
   zero-off : r - 0 ≡ r
   zero-off = omega arith
 
-  pub front-length : length (take (r - 0) (drop 0 ci)) ≡ r
+  pub front-length : length (front ci) ≡ r
   front-length = length-take-le (r - 0) ci (omega (arith, ch .few)) ∙ zero-off
 
-  items-are : itemsOf (take (r - 0) (drop 0 ci)) (take (r - 0) (drop 0 cd)) ≡ candidates node (itemsOf ids dists)
+  items-are : itemsOf (front ci) (front cd) ≡ candidates node (itemsOf ids dists)
   items-are = ap (λ (k : ℕ). itemsOf (take k ci) (take k cd)) zero-off ∙ ch .items apart
 
-  pub measurable : Measurable dim vectors (take (r - 0) (drop 0 ci)) (take (r - 0) (drop 0 cd))
+  pub measurable : Measurable dim vectors (front ci) (front cd)
   measurable =
-      let e : length (take (r - 0) (drop 0 ci)) ≡ length (take (r - 0) (drop 0 cd)) = front-length ∙ sym (length-take-le (r - 0) cd (omega (arith, ch .few)) ∙ zero-off) in
+      let e : length (front ci) ≡ length (front cd) = front-length ∙ sym (length-take-le (r - 0) cd (omega (arith, ch .few)) ∙ zero-off) in
+      let In : Item → Type 0 = λ c. VectorIn dim vectors (c .id) in
+      let reach : All In (itemsOf (front ci) (front cd)) =
+      subst (All In) (sym items-are) (all-candidates In node (itemsOf ids dists) (items-ids (VectorIn dim vectors) ids dists (m .rows))) in
       record {
         same = e;
         narrow = m .narrow;
-        rows = ids-items (VectorIn dim vectors) (take (r - 0) (drop 0 ci)) (take (r - 0) (drop 0 cd)) e
-            (subst (All (λ (c : Item). VectorIn dim vectors (c .id))) (sym items-are) (all-candidates (λ (c : Item). VectorIn dim vectors (c .id)) node (itemsOf ids dists) (items-ids (VectorIn dim vectors) ids dists (m .rows))));
-        wholes = subst (λ (k : ℕ). All IsWhole (take k cd)) (sym zero-off) (ch .wholes);
+        rows = ids-items (VectorIn dim vectors) (front ci) (front cd) e reach;
+        small = subst (λ (k : ℕ). All (λ (d : ℕ). d ≤ limit) (take k cd)) (sym zero-off) (ch .small);
       }
 
-  pub pruned : (row : List ℕ) (k width degree : ℕ) (alpha : Float) → Written row k width (prunedFrom (between dim vectors) degree alpha (itemsOf (take (r - 0) (drop 0 ci)) (take (r - 0) (drop 0 cd))))
+  pub pruned : (row : List ℕ) (k width degree : ℕ) (alpha : Float)
+      → Written row k width (prunedFrom (between dim vectors) degree alpha (itemsOf (front ci) (front cd)))
       → Written row k width (prune (between dim vectors) degree alpha node (itemsOf ids dists))
   unfolding prune
   pruned row k width degree alpha w = subst (λ (l : List Item). Written row k width (prunedFrom (between dim vectors) degree alpha l)) items-are w

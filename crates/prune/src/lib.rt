@@ -8,12 +8,13 @@ ghost use Prim.Native.Nat.{_+_, _*_, _≤_};
 ghost use lib.ListN.{length};
 ghost use Rattle.definition.specs.Floats.{larger};
 ghost use Rattle.definition.specs.Metric.{between};
-ghost use Rattle.definition.specs.Prune.{targetOf, increment, nextAlpha, prunedFrom, prune};
+ghost use Rattle.definition.specs.Prune.{targetOf, increment, nextAlpha, quotient, prunedFrom, prune};
+ghost use Rattle.whole.specs.Whole.{limit};
 ghost use Rattle.metric.specs.Exact.{VectorIn};
-ghost use Rattle.prune_items.specs.Items.{itemsOf};
+ghost use Rattle.laws.specs.Paired.{itemsOf};
 ghost use Rattle.prune_pool.specs.Says.{Distinct};
 ghost use Rattle.table.specs.Rows.{Written, Stretched};
-ghost use Rattle.prune.specs.Says.{quotientF, Measurable, shadedFrom, Shaded, roundsOf, Taken};
+ghost use Rattle.prune.specs.Says.{Measurable, shadedFrom, Shaded, roundsOf, Taken};
 
 // f32::MAX
 const LARGEST: f32 = 3.40282347e38;
@@ -40,16 +41,22 @@ fn next_alpha(target: f32, current: f32) -> f32
     if target < raised { target } else { raised }
 }
 
-// The quotient of a candidate's distance by its distance to the taken one.
-fn quotient_of(dist: f32, apart: f32) -> f32
-    ensures { λ r. ⌜ r ≡ quotientF dist apart ⌝ }
+// The quotient of a candidate's distance by its distance to the taken one: here, and nowhere before, they are floats.
+fn quotient_of(dist: u32, apart: u32) -> f32
+    requires { ⌜ (dist ≤ limit) × (apart ≤ limit) ⌝ }
+    ensures { λ r. ⌜ r ≡ quotient dist apart ⌝ }
 {
-    if apart == 0.0 { LARGEST } else { dist / apart }
+    if apart == 0 {
+        LARGEST
+    } else {
+        dist as f32 / apart as f32
+    }
 }
 
 // The larger of a factor and that quotient.
-fn raised(factor: f32, dist: f32, apart: f32) -> f32
-    ensures { λ r. ⌜ r ≡ larger factor (quotientF dist apart) ⌝ }
+fn raised(factor: f32, dist: u32, apart: u32) -> f32
+    requires { ⌜ (dist ≤ limit) × (apart ≤ limit) ⌝ }
+    ensures { λ r. ⌜ r ≡ larger factor (quotient dist apart) ⌝ }
 {
     let q = quotient_of(dist, apart);
     if factor < q { q } else { factor }
@@ -61,7 +68,7 @@ fn shade_rest(
     dim: usize,
     query: &[u8],
     ids: &[u32],
-    dists: &[f32],
+    dists: &[u32],
     factors: &mut [f32],
     from: usize,
     target: f32,
@@ -89,7 +96,7 @@ fn shade_later(
     vectors: &[u8],
     dim: usize,
     ids: &[u32],
-    dists: &[f32],
+    dists: &[u32],
     factors: &mut [f32],
     from: usize,
     taken: usize,
@@ -120,7 +127,7 @@ fn take_rounds(
     vectors: &[u8],
     dim: usize,
     ids: &[u32],
-    dists: &[f32],
+    dists: &[u32],
     factors: &mut [f32],
     row: &mut [u32],
     degree: usize,
@@ -166,11 +173,11 @@ fn take_rounds(
 }
 
 // The writer: the row that pruning gives from these candidates, then padding. Returns how many ids there are.
-pub fn write_pruned(
+fn write_pruned(
     vectors: &[u8],
     dim: usize,
     ids: &[u32],
-    dists: &[f32],
+    dists: &[u32],
     factors: &mut [f32],
     row: &mut [u32],
     degree: usize,
@@ -187,12 +194,12 @@ pub fn write_pruned(
     count
 }
 
-// Part 5 whole: from a pool of ids, each once, with their distances from the node, to the node's row. The pool is left in another order.
+// Part 5 whole: from a pool of ids, each once, with their distances from the node, to the node's row.
 pub fn prune_neighbors(
     vectors: &[u8],
     dim: usize,
-    ids: &mut [u32],
-    dists: &mut [f32],
+    ids: &[u32],
+    dists: &[u32],
     node: u32,
     factors: &mut [f32],
     row: &mut [u32],
@@ -206,7 +213,7 @@ pub fn prune_neighbors(
         (prune (between dim (now (vectors .entry))) degree alpha node (itemsOf (now (ids .entry)) (now (dists .entry)))) ⌝ }
 {
     let mut ci = [0u32; 750];
-    let mut cd = [0.0f32; 750];
+    let mut cd = [0u32; 750];
     let count = choose(ids, dists, node, &mut ci, &mut cd);
     write_pruned(
         vectors,
@@ -227,8 +234,8 @@ pub fn prune_into(
     width: usize,
     vectors: &[u8],
     dim: usize,
-    ids: &mut [u32],
-    dists: &mut [f32],
+    ids: &[u32],
+    dists: &[u32],
     node: u32,
     factors: &mut [f32],
     degree: usize,
@@ -237,7 +244,8 @@ pub fn prune_into(
     requires { ⌜ Measurable dim (now vectors) (now ids) (now dists) ⌝ }
     requires { ⌜ Distinct (now ids) ⌝ }
     requires { ⌜ (750 ≤ length (now factors)) × (degree ≤ width) × (place * width + width ≤ length (now table)) ⌝ }
-    ensures { λ r. ⌜ Stretched (now (table .entry)) (now (table .exit)) place width r (prune (between dim (now (vectors .entry))) degree alpha node (itemsOf (now (ids .entry)) (now (dists .entry)))) ⌝ }
+    ensures { λ r. ⌜ Stretched (now (table .entry)) (now (table .exit)) place width r
+        (prune (between dim (now (vectors .entry))) degree alpha node (itemsOf (now (ids .entry)) (now (dists .entry)))) ⌝ }
 {
     let at = place * width;
     let end = at + width;

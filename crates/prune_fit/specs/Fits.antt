@@ -1,14 +1,12 @@
 -- The row that the ids of a node become: the definition's `fitted`.
 use mathlib.Core.Path.{_≡_, refl, sym, ap, _∙_, subst}
 use mathlib.Core.Bool.{Bool, true, false, cond}
-use mathlib.Core.List.{List, _++_}
-use Prim.Native.Nat.{ℕ, _+_, _*_, _≤_, _<_}
+use mathlib.Core.List.{List}
+use Prim.Native.Nat.{ℕ, _≤_, _<_}
 use native.Mathlib.Omega.{arith}
 use borrow.Author.Tests.{le-leb, lt-leb, leb-true}
 use lib.Dec.{leb}
-use lib.Ieee.{Float}
-use lib.ListN.{length, getD, take, drop, replicate}
-use Rattle.definition.specs.Tables.{padded}
+use lib.ListN.{length, getD, replicate}
 use Rattle.definition.specs.Metric.{between}
 use Rattle.definition.specs.Floats.{nought, one}
 use Rattle.definition.specs.Prune.{prune, prunedFrom, candidates, measured, targetOf, mostRounds}
@@ -16,18 +14,15 @@ use Rattle.definition.specs.Slack.{slack}
 use Rattle.definition.specs.Batch.{Setting, fitted, pruneIds}
 use Rattle.definition.specs.Outcome.{settingOf}
 use Rattle.laws.specs.Words.{Below}
-use Rattle.whole.specs.Whole.{IsWhole}
 use Rattle.given.specs.Given.{Given, setting, Limits}
-use Rattle.metric.specs.Exact.{VectorIn}
-use Rattle.metric.specs.Laws.{vector-in}
-use Rattle.prune_items.specs.Items.{itemsOf}
-use Rattle.laws.specs.All.{All, all-of}
-use Rattle.prune_items.specs.Held.{items-measured, wholes-measured}
+use Rattle.metric.specs.Exact.{VectorIn, Distances}
+use Rattle.metric.specs.Laws.{distances-small, vector-in}
+use Rattle.laws.specs.All.{all-of}
+use Rattle.laws.specs.Paired.{itemsOf, items-measured}
 use Rattle.prune_pool.specs.Says.{Distinct}
 use Rattle.prune.specs.Says.{Measurable}
 use Rattle.theory.specs.prune.Pruned.{rounds-room}
 use Rattle.table.specs.Rows.{Stretched, stretched-as}
-use Rattle.prune_fit.specs.Measured.{Distances}
 
 -- the ids as they are if there are at most `width`, otherwise pruned
 unfoldable pub fittedTo : Setting → ℕ → ℕ → List ℕ → List ℕ
@@ -55,14 +50,14 @@ module _ (g : Given) (node width : ℕ) (ids table₀ table : List ℕ) {p r : �
             (ap (λ (b : Bool). cond b ids (pruneIds (setting g) node ids)) (sym (le-leb (length ids) width h))) s;
       }
 
-  pub fits-long : {dists : List Float} → width < length ids → Distances (g .dim) (g .vectors) p ids dists
+  pub fits-long : {dists : List ℕ} → width < length ids → Distances (between (g .dim) (g .vectors) p) ids dists
       → Stretched table₀ table p width r (prune (between (g .dim) (g .vectors)) (g .params .degree) (g .params .alpha) node (itemsOf ids dists))
       → Fitted g node width ids table₀ table
   unfolding fittedTo pruneIds settingOf
   fits-long h d s =
       let far = between (g .dim) (g .vectors) in
       let items : itemsOf ids _ ≡ measured (between (g .dim) (g .vectors) node) ids =
-      ap (itemsOf ids) (d .are) ∙ items-measured (far p) ids (d .small) ∙ ap (λ (k : ℕ). measured (far k) ids) q in
+      ap (itemsOf ids) (d .are) ∙ items-measured (far p) ids ∙ ap (λ (k : ℕ). measured (far k) ids) q in
       record {
         row =
             stretched-as table₀ table p node width r _ _ q
@@ -100,12 +95,12 @@ module _ {g : Given} {node width : ℕ} {ids : List ℕ} (f : Fittable g node wi
   pub ids-reach : (k : ℕ) → k < length ids → VectorIn (g .dim) (g .vectors) (getD ids k 0)
   ids-reach k h = reaches (getD ids k 0) (f .ids-in k h)
 
-  pub as-measurable : {p : ℕ} {dists : List Float} → length dists ≡ length ids → Distances (g .dim) (g .vectors) p ids dists
+  pub as-measurable : (p : ℕ) {dists : List ℕ} → length dists ≡ length ids → Distances (between (g .dim) (g .vectors) p) ids dists
       → Measurable (g .dim) (g .vectors) ids dists
-  as-measurable {p} e d =
+  as-measurable p e d =
       record {
         same = sym e;
         narrow = f .limits .dim-few;
         rows = all-of (VectorIn (g .dim) (g .vectors)) 0 ids ids-reach;
-        wholes = subst (All IsWhole) (sym (d .are)) (wholes-measured (between (g .dim) (g .vectors) p) ids (d .small));
+        small = distances-small (between (g .dim) (g .vectors) p) ids _ d;
       }

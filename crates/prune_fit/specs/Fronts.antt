@@ -4,14 +4,13 @@ use native.Mathlib.Omega.{arith}
 use mathlib.Core.Path.{_≡_, sym, _∙_}
 use mathlib.Core.List.{List, List·Memᴰ as Mem}
 use lib.ListN.{length, getD, take, length-take}
-use lib.Ieee.{Float}
 use Rattle.laws.specs.Members.{mem-at}
 use Rattle.laws.specs.Words.{Below}
 
 front-length : {A : Type 0} (l : List A) (r : ℕ) → r ≤ length l → length (take (r - 0) l) ≡ r
 front-length l r h = length-take (r - 0) l ∙ omega arith
 
-pub fronts-same : (list : List ℕ) (dists : List Float) (count : ℕ) → count ≤ length list → count ≤ length dists
+pub fronts-same : (list dists : List ℕ) (count : ℕ) → count ≤ length list → count ≤ length dists
     → length (take (count - 0) dists) ≡ length (take (count - 0) list)
 fronts-same list dists count a b = front-length dists count b ∙ sym (front-length list count a)
 

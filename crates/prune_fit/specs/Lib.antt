@@ -1,4 +1,3 @@
 -- Ids that become a row: measured, fitted, written into their stretch of a table.
-pub mod Measured
 pub mod Fits
 pub mod Fronts

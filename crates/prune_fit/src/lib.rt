@@ -2,39 +2,34 @@
 ghost use mathlib.Core.Path.{_≡_};
 ghost use Prim.Native.Nat.{ℕ, _+_, _*_, _≤_, _<_};
 ghost use lib.ListN.{length, getD};
-ghost use Rattle.metric.specs.Exact.{VectorIn};
+ghost use Rattle.definition.specs.Metric.{between};
+ghost use Rattle.metric.specs.Exact.{VectorIn, Distances};
 ghost use Rattle.scratch.specs.Layout.{mostFactors};
 ghost use Rattle.given.specs.Given.{given};
-ghost use Rattle.prune_fit.specs.Measured.{Distances};
 ghost use Rattle.prune_fit.specs.Fits.{Fittable, Fitted};
 use given::Ground;
 
-// The distance of each id from the node.
-pub fn measure(vectors: &[u8], dim: usize, node: usize, ids: &[u32], dists: &mut [f32])
-    requires { ⌜ (dim ≤ 256) × (length (now dists) ≡ length (now ids)) ⌝ }
+// The distance of each id from the node, whose vector is lent once for all.
+fn measure(vectors: &[u8], dim: usize, node: usize, ids: &[u32], dists: &mut [u32])
+    requires { ⌜ (dim ≤ 256) × (length (now ids) ≡ length (now dists)) ⌝ }
     requires { ⌜ VectorIn dim (now vectors) node ⌝ }
     requires { ⌜ ((k : ℕ) → k < length (now ids) → VectorIn dim (now vectors) (getD (now ids) k 0)) ⌝ }
-    ensures { λ _. ⌜ Distances dim (now (vectors .entry)) node (now (ids .entry)) (now (dists .exit)) ⌝ }
+    ensures { λ _. ⌜ Distances (between dim (now (vectors .entry)) node) (now (ids .entry)) (now (dists .exit)) ⌝ }
 {
-    let m = ids.len();
-    let mut k = 0;
-    while k < m {
-        let id = table::index_of(ids[k]);
-        dists[k] = metric::between(dim, vectors, node, id);
-        k += 1;
-    }
+    let at = node * dim;
+    let end = at + dim;
+    metric::from_query_each(dim, vectors, &vectors[at..end], ids, dists);
 }
 
 // The ids of a node become its row of a table of `width` words a row: as they are if there are at most so many, otherwise pruned.
-// The ids are then in another order.
 pub fn fit_row(
     g: Ground,
     vectors: &[u8],
     node: u32,
     width: usize,
     table: &mut [u32],
-    ids: &mut [u32],
-    dists: &mut [f32],
+    ids: &[u32],
+    dists: &mut [u32],
     factors: &mut [f32],
 )
     requires { ⌜ Fittable (given g (now vectors)) node width (now ids) ⌝ }

@@ -6,56 +6,50 @@ use mathlib.Core.List.{List, [], _∷_, List·Memᴰ as Mem, List·Memᴰ·not-n
 use Prim.Native.Nat.{ℕ, _+_, _*_, _≤_}
 use native.Mathlib.Omega.{arith}
 use Rattle.definition.specs.Prune.{cut}
-use Rattle.definition.specs.Refusals.{searchWords, searchFloats, buildWords, buildFloats}
+use Rattle.definition.specs.Refusals.{searchWords, buildWords, buildFloats}
 
--- The greatest beam: as many places work has
+-- The greatest beam: as many keys a walk has
 abbrev pub mostBeam : ℕ
 mostBeam = 256
 
--- Words of a walk: the n marks from 0 on, the ids of the visited, and work
+-- The slack of the greatest degree: no row of a table has more words
+abbrev pub widest : ℕ
+widest = 84
+
+-- Words of a walk: the n marks from 0 on, and the mark of what is no entry. A walk that keeps what it visits has two regions more: the ids, and where a
+-- search's room ends, their distances
+abbrev pub strayAt : ℕ → ℕ
+strayAt n = n
+
 abbrev pub visitedAt : ℕ → ℕ
-visitedAt n = n
+visitedAt n = n + 1
 
-abbrev pub workAt : ℕ → ℕ
-workAt n = 2 * n
+abbrev pub visitedEnd : ℕ → ℕ
+visitedEnd n = 2 * n + 1
 
-abbrev pub workEnd : ℕ → ℕ
-workEnd n = 2 * n + 256
+abbrev pub visitedDistsAt : ℕ → ℕ
+visitedDistsAt n = 2 * n + 256
 
--- Floats of a walk: the n distances of the visited from 0 on, and those of work
-abbrev pub workDistsAt : ℕ → ℕ
-workDistsAt n = n
-
-abbrev pub workDistsEnd : ℕ → ℕ
-workDistsEnd n = n + 256
-
--- Words of a pool, beyond those of a walk: its ids, and the stamps of the n entries
+-- Words of a pool, beyond those of a walk: its ids, the stamps of the n entries, and its distances
 abbrev pub poolAt : ℕ → ℕ
 poolAt n = 3 * n + 256
 
 abbrev pub stampsAt : ℕ → ℕ
 stampsAt n = 4 * n + 256
 
-abbrev pub stampsEnd : ℕ → ℕ
-stampsEnd n = 5 * n + 256
+abbrev pub poolDistsAt : ℕ → ℕ
+poolDistsAt n = 5 * n + 256
 
--- how many factors pruning needs: one for each entry that the definition's cut leaves
+abbrev pub poolEnd : ℕ → ℕ
+poolEnd n = 6 * n + 256
+
+-- how many factors pruning needs, from 0 on in the floats: one for each entry that the definition's cut leaves
 abbrev pub mostFactors : ℕ
 mostFactors = 750
 
 pub factors-cut : mostFactors ≡ cut
 unfolding cut
 factors-cut = refl
-
--- Floats of a pool: its distances; and behind them the factors of pruning
-abbrev pub poolDistsAt : ℕ → ℕ
-poolDistsAt n = 2 * n + 256
-
-abbrev pub factorsAt : ℕ → ℕ
-factorsAt n = 3 * n + 256
-
-abbrev pub factorsEnd : ℕ → ℕ
-factorsEnd n = 3 * n + 1006
 
 -- Words of the merge, where walks and pools were: the heads of the chains from 0 on, the seats of the listed, and a link for each word of a fresh row
 abbrev pub seatsAt : ℕ → ℕ
@@ -77,7 +71,13 @@ freshRowAt n p = 6 * n + 16384 + 64 * p
 abbrev pub freshEnd : ℕ → ℕ
 freshEnd n = 6 * n + 32768
 
--- where the floats of a batch end: those beyond the factors are spare
+-- where the room of a search ends, and the floats of a batch: what of it no region has is spare
+abbrev pub searchEnd : ℕ → ℕ
+searchEnd n = 2 * n + 256
+
+abbrev pub searchFloatsEnd : ℕ → ℕ
+searchFloatsEnd n = n + 256
+
 abbrev pub floatsEnd : ℕ → ℕ
 floatsEnd n = 4 * n + 1024
 
@@ -108,25 +108,19 @@ unfolding Fills
 fills-apart begin end r rs f s m = let q = f .0 in let l = fills-from (begin + r .size) end rs (f .1) s m in omega arith
 
 module _ (n : ℕ) where
-  -- marks, visited, work
+  -- marks, the mark of what is no entry, spare
   abbrev pub searchWordRegions : List Region
-  searchWordRegions = lies 0 n ∷ lies (visitedAt n) n ∷ lies (workAt n) 256 ∷ []
+  searchWordRegions = lies 0 n ∷ lies (strayAt n) 1 ∷ lies (visitedAt n) (n + 255) ∷ []
 
-  -- their distances
-  abbrev pub searchFloatRegions : List Region
-  searchFloatRegions = lies 0 n ∷ lies (workDistsAt n) 256 ∷ []
-
-  -- while the fresh rows are made: a walk's, n spare, the pool, its stamps, spare, the fresh rows
+  -- while the fresh rows are made: a walk's, the visited and, behind a few spare, their distances, the pool, its stamps, its distances, spare, the fresh rows
   abbrev pub freshWordRegions : List Region
   freshWordRegions =
-      lies 0 n ∷ lies (visitedAt n) n ∷ lies (workAt n) 256 ∷ lies (workEnd n) n
-      ∷ lies (poolAt n) n ∷ lies (stampsAt n) n ∷ lies (stampsEnd n) (n + 16128) ∷ lies (freshAt n) 16384 ∷ []
+      lies 0 n ∷ lies (strayAt n) 1 ∷ lies (visitedAt n) n ∷ lies (visitedEnd n) 255 ∷ lies (visitedDistsAt n) n
+      ∷ lies (poolAt n) n ∷ lies (stampsAt n) n ∷ lies (poolDistsAt n) n ∷ lies (poolEnd n) 16128 ∷ lies (freshAt n) 16384 ∷ []
 
-  -- a walk's, n spare, the pool's, the factors, spare
+  -- the factors, spare
   abbrev pub freshFloatRegions : List Region
-  freshFloatRegions =
-      lies 0 n ∷ lies (workDistsAt n) 256 ∷ lies (workDistsEnd n) n
-      ∷ lies (poolDistsAt n) n ∷ lies (factorsAt n) 750 ∷ lies (factorsEnd n) (n + 18) ∷ []
+  freshFloatRegions = lies 0 mostFactors ∷ lies mostFactors (4 * n + 274) ∷ []
 
   -- while the rows are merged: heads, seats, links, spare, the fresh rows
   abbrev pub mergeWordRegions : List Region
@@ -137,17 +131,14 @@ module _ (n : ℕ) where
   unfolding searchWords Fills
   search-words-filled = (refl, (omega arith, (omega arith, omega arith)))
 
-  pub search-floats-filled : Fills 0 searchFloatRegions (searchFloats n)
-  unfolding searchFloats Fills
-  search-floats-filled = (refl, (omega arith, omega arith))
-
   pub fresh-words-filled : Fills 0 freshWordRegions (buildWords n)
   unfolding buildWords Fills
-  fresh-words-filled = (refl, (omega arith, (omega arith, (omega arith, (omega arith, (omega arith, (omega arith, (omega arith, omega arith))))))))
+  fresh-words-filled =
+      (refl, (omega arith, (omega arith, (omega arith, (omega arith, (omega arith, (omega arith, (omega arith, (omega arith, (omega arith, omega arith))))))))))
 
   pub fresh-floats-filled : Fills 0 freshFloatRegions (buildFloats n)
   unfolding buildFloats Fills
-  fresh-floats-filled = (refl, (omega arith, (omega arith, (omega arith, (omega arith, (omega arith, omega arith))))))
+  fresh-floats-filled = (refl, (refl, omega arith))
 
   pub merge-words-filled : Fills 0 mergeWordRegions (buildWords n)
   unfolding buildWords Fills

@@ -3,40 +3,35 @@ ghost use mathlib.Core.Path.{_≡_};
 ghost use Prim.Native.Nat.{_+_, _*_, _≤_, _<_};
 ghost use lib.ListN.{length, replicate};
 ghost use lib.Ieee.{ofBits, binary32};
-ghost use Rattle.scratch.specs.Layout.{workAt, workEnd, workDistsEnd, poolAt, stampsAt, stampsEnd, poolDistsAt, factorsAt};
-ghost use Rattle.scratch.specs.Layout.{factorsEnd, linksAt, linksEnd, freshAt, freshRowAt, freshEnd, floatsEnd};
+ghost use Rattle.scratch.specs.Layout.{visitedAt, visitedDistsAt, poolAt, stampsAt, poolDistsAt, poolEnd, linksAt, linksEnd};
+ghost use Rattle.scratch.specs.Layout.{freshAt, freshRowAt, freshEnd, searchEnd, searchFloatsEnd, floatsEnd};
 ghost use Rattle.scratch.specs.Clear.{FrontClear, RoomClear};
+
+// The slack of the greatest degree: no row of a table has more words.
+pub const WIDEST: usize = 84;
 
 // How many words a fresh row has.
 pub const FRESH_WIDTH: usize = 64;
 
-// How many factors pruning needs: one for each entry that its cut leaves.
+// How many factors pruning needs, from 0 on in the floats: one for each entry that its cut leaves.
 pub const FACTORS: usize = 750;
 
-// Words of a walk: marks from 0, the visited from n, work.
-pub fn work_at(n: usize) -> usize
+// Words of a walk that keeps what it visits: marks from 0, the ids, their distances.
+pub fn visited_at(n: usize) -> usize
     requires { ⌜ n ≤ 65536 ⌝ }
-    ensures { λ r. ⌜ r ≡ workAt n ⌝ }
+    ensures { λ r. ⌜ r ≡ visitedAt n ⌝ }
 {
-    2 * n
+    n + 1
 }
 
-pub fn work_end(n: usize) -> usize
+pub fn visited_dists_at(n: usize) -> usize
     requires { ⌜ n ≤ 65536 ⌝ }
-    ensures { λ r. ⌜ r ≡ workEnd n ⌝ }
+    ensures { λ r. ⌜ r ≡ visitedDistsAt n ⌝ }
 {
     2 * n + 256
 }
 
-// Floats of a walk: the visited from 0, work from n.
-pub fn work_dists_end(n: usize) -> usize
-    requires { ⌜ n ≤ 65536 ⌝ }
-    ensures { λ r. ⌜ r ≡ workDistsEnd n ⌝ }
-{
-    n + 256
-}
-
-// Words of a pool: its ids, and its stamps.
+// Words of a pool: its ids, its stamps, its distances.
 pub fn pool_at(n: usize) -> usize
     requires { ⌜ n ≤ 65536 ⌝ }
     ensures { λ r. ⌜ r ≡ poolAt n ⌝ }
@@ -51,33 +46,18 @@ pub fn stamps_at(n: usize) -> usize
     4 * n + 256
 }
 
-pub fn stamps_end(n: usize) -> usize
-    requires { ⌜ n ≤ 65536 ⌝ }
-    ensures { λ r. ⌜ r ≡ stampsEnd n ⌝ }
-{
-    5 * n + 256
-}
-
-// Floats of a pool: its distances, and then the factors of pruning.
 pub fn pool_dists_at(n: usize) -> usize
     requires { ⌜ n ≤ 65536 ⌝ }
     ensures { λ r. ⌜ r ≡ poolDistsAt n ⌝ }
 {
-    2 * n + 256
+    5 * n + 256
 }
 
-pub fn factors_at(n: usize) -> usize
+pub fn pool_end(n: usize) -> usize
     requires { ⌜ n ≤ 65536 ⌝ }
-    ensures { λ r. ⌜ r ≡ factorsAt n ⌝ }
+    ensures { λ r. ⌜ r ≡ poolEnd n ⌝ }
 {
-    3 * n + 256
-}
-
-pub fn factors_end(n: usize) -> usize
-    requires { ⌜ n ≤ 65536 ⌝ }
-    ensures { λ r. ⌜ r ≡ factorsEnd n ⌝ }
-{
-    3 * n + 1006
+    6 * n + 256
 }
 
 // Words of the merge: heads from 0, seats from n, links.
@@ -108,6 +88,21 @@ pub fn fresh_row_at(n: usize, p: usize) -> usize
     ensures { λ r. ⌜ r ≡ freshRowAt n p ⌝ }
 {
     6 * n + 16384 + 64 * p
+}
+
+// Where the room of a search ends, in words and in floats.
+pub fn search_end(n: usize) -> usize
+    requires { ⌜ n ≤ 65536 ⌝ }
+    ensures { λ r. ⌜ r ≡ searchEnd n ⌝ }
+{
+    2 * n + 256
+}
+
+pub fn search_floats_end(n: usize) -> usize
+    requires { ⌜ n ≤ 65536 ⌝ }
+    ensures { λ r. ⌜ r ≡ searchFloatsEnd n ⌝ }
+{
+    n + 256
 }
 
 // Where the room of a batch, close or whole build ends, in words and in floats.

@@ -1,9 +1,11 @@
--- The answers, from what the scratch holds of the work; and the room that is wiped.
+-- The answers, from the keys that a walk leaves; and the room that is wiped.
 use mathlib.Core.Path.{_≡_, sym, ap, _∙_}
-use mathlib.Core.List.{List, _++_, map}
+use mathlib.Core.List.{List, _++_, map, map-map}
 use Prim.Native.Nat.{ℕ, min, max}
+use native.Mathlib.Omega.{arith}
 use lib.Ieee.{Float}
 use lib.ListN.{length, take, drop, length-take, length-map}
+use lib.Seq.{take-take}
 use Rattle.definition.specs.Lists.{over, cleared}
 use Rattle.definition.specs.Metric.{fromQuery, whole}
 use Rattle.definition.specs.Tables.{row}
@@ -15,10 +17,11 @@ use Rattle.definition.specs.Refusals.{SearchCall, searchWords, searchFloats}
 use Rattle.definition.specs.Outcome.{found, foundIds, foundDists}
 use Rattle.laws.specs.Backwards.{rev, length-rev, map-rev, map-take, take-least}
 use Rattle.scratch.specs.Lent.{Lent}
-use Rattle.beam.specs.Held.{Holds}
+use Rattle.beam.specs.Keys.{idOf, distOf}
+use Rattle.kept.specs.Says.{Tells}
 use Rattle.search.specs.Listing.{sort-desc}
 
--- ids and their distances, beside each other: those of the work, or the two outputs
+-- the two outputs
 pub record Pairs : Type 0 where
   pub ids : List ℕ
   pub dists : List Float
@@ -26,22 +29,26 @@ pub record Pairs : Type 0 where
 abbrev pub pairs : List ℕ → List Float → Pairs
 pairs ids dists = record { ids = ids; dists = dists }
 
--- the best `count` of a work of len items, from the best on, over the front of the outputs
-pub record Listed (work : Pairs) (len count : ℕ) (before after : Pairs) : Type 0 where
-  pub ids-are : after .ids ≡ take count (rev (take len (work .ids))) ++ drop count (before .ids)
-  pub dists-are : after .dists ≡ take count (rev (take len (work .dists))) ++ drop count (before .dists)
+-- the distance that a key holds, as an answer gives it
+abbrev pub floatOf : ℕ → Float
+floatOf key = whole (distOf key)
+
+-- what the first `count` keys hold, over the front of the outputs
+pub record Listed (keys : List ℕ) (count : ℕ) (before after : Pairs) : Type 0 where
+  pub ids-are : after .ids ≡ take count (map idOf keys) ++ drop count (before .ids)
+  pub dists-are : after .dists ≡ take count (map floatOf keys) ++ drop count (before .dists)
 
 -- the stated room is zero, what lies beyond it untouched
 pub record Wiped (n : ℕ) (before after : Lent) : Type 0 where
   pub words-are : after .words ≡ cleared 0 (searchWords n) (before .words)
   pub floats-are : after .floats ≡ cleared nought (searchFloats n) (before .floats)
 
--- ---- the answers, from what the scratch holds of the work
+-- ---- the answers, from what the keys tell of the work
 -- the state that the walk comes to
 abbrev pub stateOf : SearchCall → State
 stateOf c = greedy (fromQuery (c .dim) (c .vectors) (c .query)) (row (c .degree) (c .table)) (c .n) (max (c .beam) 1) (c .start)
 
-module _ (c : SearchCall) (work : Pairs) (len : ℕ) (h : Holds (work .ids) (work .dists) len (stateOf c .work)) where
+module _ (c : SearchCall) (keys : List ℕ) (len : ℕ) (h : Tells keys len (stateOf c .work)) (count : ℕ) (least : count ≡ min (c .k) len) where
   -- the best first
   abbrev best : List Item
   best = rev (stateOf c .work)
@@ -50,35 +57,38 @@ module _ (c : SearchCall) (work : Pairs) (len : ℕ) (h : Holds (work .ids) (wor
   unfolding found answers ranked searched
   found-rev = ap (take (c .k)) (sort-desc (stateOf c .work) (h .sorted))
 
-  size : length best ≡ len
-  size = length-rev (stateOf c .work) ∙ h .count
+  least-best : count ≡ min (c .k) (length best)
+  least-best = least ∙ ap (λ (m : ℕ). min (c .k) m) (sym (length-rev (stateOf c .work) ∙ h .size))
 
-  module _ (count : ℕ) (least : count ≡ min (c .k) len) where
-    least-best : count ≡ min (c .k) (length best)
-    least-best = least ∙ ap (λ (m : ℕ). min (c .k) m) (sym size)
+  pub found-count : count ≡ length (found c)
+  found-count = least-best ∙ sym (length-take (c .k) best) ∙ ap length (sym found-rev)
 
-    pub found-count : count ≡ length (found c)
-    found-count = least-best ∙ sym (length-take (c .k) best) ∙ ap length (sym found-rev)
+  first : {A : Type 0} (f : Item → A) → take count (rev (map f (stateOf c .work))) ≡ map f (found c)
+  first {A} f =
+      ap (take count) (sym (map-rev f (stateOf c .work))) ∙ sym (map-take f count best)
+      ∙ ap (map f) (take-least (c .k) count best least-best ∙ sym found-rev)
 
-    first : {A : Type 0} (f : Item → A) → take count (rev (map f (stateOf c .work))) ≡ map f (found c)
-    first {A} f =
-        ap (take count) (sym (map-rev f (stateOf c .work))) ∙ sym (map-take f count best)
-        ∙ ap (map f) (take-least (c .k) count best least-best ∙ sym found-rev)
+  -- what f tells of the keys is what g tells of the work: so it is listed over the front of an output
+  listed : {A : Type 0} (f : ℕ → A) (g : Item → A) (out : List A) → map f (take len keys) ≡ rev (map g (stateOf c .work))
+      → take count (map f keys) ++ drop count out ≡ over (map g (found c)) out
+  unfolding over
+  listed {A} f g out e =
+      let front : take count (map f keys) ≡ take count (map f (take len keys)) =
+      sym (take-take count len (map f keys) (omega arith)) ∙ ap (take count) (sym (map-take f len keys)) in
+      ap (λ (z : List A). z ++ drop count out) (front ∙ ap (take count) e ∙ first g)
+      ∙ ap (λ (m : ℕ). map g (found c) ++ drop m out) (found-count ∙ sym (length-map (found c) g))
 
-    -- what is listed over the front of an output
-    listed : {A : Type 0} (f : Item → A) (from out : List A) → take len from ≡ map f (stateOf c .work)
-        → take count (rev (take len from)) ++ drop count out ≡ over (map f (found c)) out
-    unfolding over
-    listed {A} f from out e =
-        let n : count ≡ length (map f (found c)) = found-count ∙ sym (length-map (found c) f) in
-        ap (λ (z : List A). z ++ drop count out) (ap (λ (z : List A). take count (rev z)) e ∙ first f)
-        ∙ ap (λ (m : ℕ). map f (found c) ++ drop m out) n
+  -- the distances too, as f32
+  floats-told : map floatOf (take len keys) ≡ rev (map (λ (a : Item). whole (a .dist)) (stateOf c .work))
+  floats-told =
+      sym (map-map whole distOf (take len keys)) ∙ ap (map whole) (h .dists-are) ∙ map-rev whole _
+      ∙ ap rev (map-map whole (λ (a : Item). a .dist) (stateOf c .work))
 
-    module _ (outs : Pairs) (l : Listed work len count (pairs (c .ids) (c .dists)) outs) where
-      pub found-ids : outs .ids ≡ over (foundIds c) (c .ids)
-      unfolding foundIds
-      found-ids = l .ids-are ∙ listed (λ a. a .id) (work .ids) (c .ids) (h .logged .ids-are)
+  module _ (outs : Pairs) (l : Listed keys count (pairs (c .ids) (c .dists)) outs) where
+    pub found-ids : outs .ids ≡ over (foundIds c) (c .ids)
+    unfolding foundIds
+    found-ids = l .ids-are ∙ listed idOf (λ a. a .id) (c .ids) (h .ids-are)
 
-      pub found-dists : outs .dists ≡ over (foundDists c) (c .dists)
-      unfolding foundDists
-      found-dists = l .dists-are ∙ listed (λ a. whole (a .dist)) (work .dists) (c .dists) (h .logged .dists-are)
+    pub found-dists : outs .dists ≡ over (foundDists c) (c .dists)
+    unfolding foundDists
+    found-dists = l .dists-are ∙ listed floatOf (λ a. whole (a .dist)) (c .dists) floats-told

@@ -6,7 +6,7 @@ use Rattle.definition.specs.Lists.{place, sort}
 use Rattle.definition.specs.Beam.{Item, nearer}
 use Rattle.definition.specs.Search.{listedFirst}
 use Rattle.laws.specs.Backwards.{rev}
-use Rattle.beam.specs.Held.{Desc}
+use Rattle.laws.specs.Descending.{Desc}
 use Rattle.laws.specs.All.{All, all-append}
 use Rattle.laws.specs.Items.{neither-nearer, listed-is}
 

@@ -1,7 +1,7 @@
 -- What a caller reads from a search that meets its statement: its number, how many answers there are, and what stands in the two outputs.
 use mathlib.Core.Path.{_≡_, refl, ap, _∙_}
 use mathlib.Core.List.{List, _++_, map}
-use Prim.Native.Nat.{ℕ, zero, suc, _<_}
+use Prim.Native.Nat.{ℕ, _<_}
 use native.Mathlib.Omega.{arith}
 use lib.ListN.{length, getD, length-map, List·getD-append}
 use Rattle.definition.specs.declared.Answer.{Answer}
@@ -11,6 +11,7 @@ use Rattle.definition.specs.Beam.{Item}
 use Rattle.definition.specs.Refusals.{SearchCall, searchNumber}
 use Rattle.definition.specs.Outcome.{SearchOut, SearchMeets, found, foundIds, foundDists, byNumber, searchOut, searchKept, searchDone, refused, answer}
 use Rattle.laws.specs.Mapped.{map-at}
+use Rattle.accepted.specs.Outcomes.{said-number}
 
 -- an answer's place in a list that begins with what f gives of each
 pub front-at : {A : Type 0} (f : Item → A) (items : List Item) (rest : List A) (i : ℕ) (d : A) (e : Item) → i < length items
@@ -18,14 +19,11 @@ pub front-at : {A : Type 0} (f : Item → A) (items : List Item) (rest : List A)
 front-at f items rest i d e h = List·getD-append (map f items) rest d i (omega (arith, length-map items f)) ∙ map-at f e d items i h
 
 module _ (c : SearchCall) (o : SearchOut) (m : SearchMeets c o) where
-  kept-number : (k : ℕ) → searchNumber c ≡ k → byNumber k (searchKept c) (searchDone c) .answer .number ≡ k
-  unfolding byNumber searchKept searchDone refused answer
-  kept-number zero e = refl
-  kept-number (suc k) e = e
-
   pub number-is : o .answer .number ≡ searchNumber c
-  unfolding searchOut
-  number-is = ap (λ (a : Answer). a .number) (m .answer-is) ∙ kept-number (searchNumber c) refl
+  unfolding searchOut searchKept searchDone refused answer
+  number-is =
+      ap (λ (a : Answer). a .number) (m .answer-is)
+      ∙ said-number (searchKept c) (searchDone c) (λ (p : SearchOut). p .answer .number) (searchNumber c) refl refl
 
   module _ (z : searchNumber c ≡ 0) where
     pub count-is : o .answer .count ≡ length (found c)

@@ -1,14 +1,14 @@
--- What a search that is accepted leaves, and the public statement from its number.
-use mathlib.Core.Path.{_≡_, refl, sym, ap, _∙_}
+-- What a search that is accepted leaves, and the public statement from its number; a lookup as a search.
+use mathlib.Core.Path.{_≡_, refl, sym, ap, _∙_, subst}
 use mathlib.Core.List.{List}
 use Prim.Native.Nat.{ℕ, _≤_}
 use lib.Ieee.{Float}
 use lib.ListN.{length}
 use Rattle.definition.specs.declared.Answer.{Answer}
 use Rattle.definition.specs.Refusals.{SearchCall, mostAnswers, searchNumber}
-use Rattle.definition.specs.Outcome.{refused, searchKept, searchDone, searchOut, SearchMeets, SearchOut}
+use Rattle.definition.specs.Outcome.{refused, searchKept, searchDone, searchOut, SearchMeets, SearchOut, cleanedCall, lookupOut, LookupMeets}
 use Rattle.accepted.specs.Outcomes.{by-refusal, by-success}
-use Rattle.accepted.specs.Search.{SearchAccepted as Accepted, accepted-at}
+use Rattle.accepted.specs.Search.{SearchAccepted as Accepted, accepted-at, cleaned-call}
 use Rattle.checks_number.specs.SearchNumber.{SearchNumbered, plain}
 
 abbrev pub outOf : Answer → List ℕ → List Float → List ℕ → List Float → SearchOut
@@ -38,6 +38,21 @@ meets c o q =
       ids-are = ap (λ (x : SearchOut). x .ids) q;
       dists-are = ap (λ (x : SearchOut). x .dists) q;
     }
+
+-- ---- a lookup is the search of the call as cleaned
+
+pub lookup-meets : (c : SearchCall) (o : SearchOut) → SearchMeets (cleanedCall c) o → LookupMeets c o
+unfolding lookupOut
+lookup-meets c o m =
+    record { answer-is = m .answer-is; words-is = m .words-is; floats-is = m .floats-is; ids-are = m .ids-are; dists-are = m .dists-are }
+
+-- and an accepted search is the lookup of its call
+module _ (c : SearchCall) (a : Accepted c) where
+  pub cleaned-accepted : Accepted (cleanedCall c)
+  cleaned-accepted = subst Accepted (sym (cleaned-call c (a .ruled))) a
+
+  pub cleaned-searched : (o : SearchOut) → Searched (cleanedCall c) o → Searched c o
+  cleaned-searched o s = subst (λ (d : SearchCall). Searched d o) (cleaned-call c (a .ruled)) s
 
 -- ---- the public statement: without records it is as if there were k of them
 module _ (c : SearchCall) (r : ℕ) (m : NumberedBeside c (c .k) r) where

@@ -1,13 +1,14 @@
-// Part 9. Search: the greedy walk with the beam raised to at least 1; answers by distance, then id, cut to k.
+// Part 9. Search: the greedy walk with the beam raised to at least 1; answers by distance, then id, cut to k. And lookup, the same walk on a table whose words
+// nobody looks at before.
 
 use definition::Answer;
 use greedy::Plan;
 ghost use mathlib.Core.Path.{_≡_};
 ghost use Prim.Native.Nat.{_≤_, max};
 ghost use lib.ListN.{length};
-ghost use Rattle.definition.specs.Outcome.{SearchMeets};
+ghost use Rattle.definition.specs.Outcome.{SearchMeets, cleanedCall, LookupMeets, fitOut};
 ghost use Rattle.scratch.specs.Lent.{lent};
-ghost use Rattle.scratch.specs.Layout.{workEnd, workDistsEnd};
+ghost use Rattle.scratch.specs.Layout.{searchEnd, searchFloatsEnd};
 ghost use Rattle.accepted.specs.Search.{SearchAccepted as Accepted};
 ghost use Rattle.checks_number.specs.SearchNumber.{callOf};
 ghost use Rattle.search.specs.Answering.{pairs, Listed, Wiped};
@@ -23,41 +24,73 @@ fn raised(beam: usize) -> usize
     beam
 }
 
-// The best `count` of a beam of `len` items, from its end, over the front of the two outputs.
-fn list_answers(
-    from: &[u32],
-    dfrom: &[f32],
-    len: usize,
-    count: usize,
-    ids: &mut [u32],
-    dists: &mut [f32],
-)
-    requires { ⌜ (count ≤ len) × (len ≤ length (now from)) × (len ≤ length (now dfrom)) ⌝ }
-    requires { ⌜ (count ≤ length (now ids)) × (count ≤ length (now dists)) ⌝ }
-    ensures { λ _. ⌜ Listed (pairs (now (from .entry)) (now (dfrom .entry))) len count
-        (pairs (now (ids .entry)) (now (dists .entry))) (pairs (now (ids .exit)) (now (dists .exit))) ⌝ }
+// The best `count` that the keys of a walk hold, over the front of the two outputs. A distance becomes an f32 here and nowhere before; a cast would ask that it
+// is small, the nearest f32 asks nothing.
+fn list_answers(keys: &[u64], count: usize, ids: &mut [u32], dists: &mut [f32])
+    requires { ⌜ (count ≤ length (now keys)) × (count ≤ length (now ids)) × (count ≤ length (now dists)) ⌝ }
+    ensures { λ _. ⌜ Listed (now (keys .entry)) count (pairs (now (ids .entry)) (now (dists .entry))) (pairs (now (ids .exit)) (now (dists .exit))) ⌝ }
 {
     let mut i = 0;
     while i < count {
-        let last = len - 1;
-        let at = last - i;
-        ids[i] = from[at];
-        dists[i] = dfrom[at];
+        let key = keys[i];
+        ids[i] = beam::id_of(key);
+        dists[i] = std::num::nearest_u32_to_f32(beam::dist_of(key));
         i += 1;
     }
 }
 
 // The stated room becomes zero.
 fn wipe(words: &mut [u32], floats: &mut [f32], n: usize)
-    requires { ⌜ (n ≤ 65536) × (workEnd n ≤ length (now words)) × (workDistsEnd n ≤ length (now floats)) ⌝ }
+    requires { ⌜ (n ≤ 65536) × (searchEnd n ≤ length (now words)) × (searchFloatsEnd n ≤ length (now floats)) ⌝ }
     ensures { λ _. ⌜ Wiped n (lent (now (words .entry)) (now (floats .entry))) (lent (now (words .exit)) (now (floats .exit))) ⌝ }
 {
-    let w = scratch::work_end(n);
-    let f = scratch::work_dists_end(n);
+    let w = scratch::search_end(n);
+    let f = scratch::search_floats_end(n);
     scratch::clear_front(words, floats, w, f);
 }
 
-// A search that no check refuses, for a caller who holds the proof of it: no check is made.
+// A lookup that no check refuses, for a caller who holds the proof of it: no check is made, and no pass over the table. The walk reads a word that is no entry
+// as padding.
+pub fn lookup_accepted(
+    n: usize,
+    dim: usize,
+    vectors: &[u8],
+    degree: usize,
+    beam: usize,
+    k: usize,
+    start: u32,
+    table: &[u32],
+    query: &[u8],
+    words: &mut [u32],
+    floats: &mut [f32],
+    ids: &mut [u32],
+    dists: &mut [f32],
+) -> Answer
+    requires { ⌜ Accepted (cleanedCall
+        (callOf n dim (now vectors) degree beam k start (now table) (now query) (now words) (now floats) (now ids) (now dists))) ⌝ }
+    ensures { λ r. ⌜ Searched
+        (cleanedCall (callOf n dim (now (vectors .entry)) degree beam k start (now (table .entry)) (now (query .entry))
+        (now (words .entry)) (now (floats .entry)) (now (ids .entry)) (now (dists .entry))))
+        (outOf r (now (words .exit)) (now (floats .exit)) (now (ids .exit)) (now (dists .exit))) ⌝ }
+{
+    let mut keys = [beam::NONE; 256];
+    let most = raised(beam);
+    let p = Plan {
+        n,
+        dim,
+        width: degree,
+        beam: most,
+        keep: false,
+    };
+    scratch::clear_words(&mut words[0..n]);
+    let walked = greedy::greedy(words, &mut keys, vectors, query, table, p, 1, start);
+    let count = laws::least(k, walked.work);
+    list_answers(&keys, count, ids, dists);
+    wipe(words, floats, n);
+    answers::found(count)
+}
+
+// A search that no check refuses: its table keeps the search rule, so that it is the lookup.
 pub fn search_accepted(
     n: usize,
     dim: usize,
@@ -79,23 +112,21 @@ pub fn search_accepted(
         (now (words .entry)) (now (floats .entry)) (now (ids .entry)) (now (dists .entry)))
         (outOf r (now (words .exit)) (now (floats .exit)) (now (ids .exit)) (now (dists .exit))) ⌝ }
 {
-    let most = raised(beam);
-    let p = Plan {
+    lookup_accepted(
         n,
         dim,
-        width: degree,
-        beam: most,
-    };
-    scratch::clear_words(&mut words[0..n]);
-    let s = greedy::greedy(words, floats, vectors, query, table, p, 1, start);
-    let len = s.work;
-    let count = laws::least(k, len);
-    let at = scratch::work_at(n);
-    let end = scratch::work_end(n);
-    let fend = scratch::work_dists_end(n);
-    list_answers(&words[at..end], &floats[n..fend], len, count, ids, dists);
-    wipe(words, floats, n);
-    answers::found(count)
+        vectors,
+        degree,
+        beam,
+        k,
+        start,
+        table,
+        query,
+        words,
+        floats,
+        ids,
+        dists,
+    )
 }
 
 // The answers of a search in `ids` and `dists`, best first, and how many they are; or the number of the refusal, which is known from lengths and from what is
@@ -167,4 +198,82 @@ pub fn search(
         ids,
         dists,
     )
+}
+
+// A search that reads each word of its table that is no entry as padding: safe on every table, and on one that keeps the search rule the same as `search`. It
+// makes no pass over the table: it costs the walk, and the room that is cleared. Its number is known from lengths and from what is only read, as in `search`.
+pub fn lookup(
+    n: usize,
+    dim: usize,
+    vectors: &[u8],
+    degree: usize,
+    beam: usize,
+    k: usize,
+    start: u32,
+    table: &[u32],
+    query: &[u8],
+    words: &mut [u32],
+    floats: &mut [f32],
+    ids: &mut [u32],
+    dists: &mut [f32],
+) -> Answer
+    ensures { λ r. ⌜ LookupMeets
+        (record {
+          n = n;
+          dim = dim;
+          vectors = now (vectors .entry);
+          degree = degree;
+          beam = beam;
+          k = k;
+          start = start;
+          table = now (table .entry);
+          query = now (query .entry);
+          words = now (words .entry);
+          floats = now (floats .entry);
+          ids = now (ids .entry);
+          dists = now (dists .entry);
+        })
+        (record { answer = r; words = now (words .exit); floats = now (floats .exit); ids = now (ids .exit); dists = now (dists .exit) }) ⌝ }
+{
+    let refusal = checks_number::lookup_number(
+        n,
+        dim,
+        vectors,
+        degree,
+        beam,
+        k,
+        start,
+        table,
+        query,
+        words.len(),
+        floats.len(),
+        ids.len(),
+        dists.len(),
+    );
+    if refusal != 0 {
+        return answers::refused(refusal);
+    }
+    lookup_accepted(
+        n,
+        dim,
+        vectors,
+        degree,
+        beam,
+        k,
+        start,
+        table,
+        query,
+        words,
+        floats,
+        ids,
+        dists,
+    )
+}
+
+// The number that a search would give for its table: a table that is searched many times is asked once, and `lookup` then answers as `search` does.
+pub fn fit(n: usize, degree: usize, table: &[u32]) -> Answer
+    ensures { λ r. ⌜ r ≡ fitOut (record { n = n; degree = degree; table = now (table .entry) }) ⌝ }
+{
+    let number = checks_number::fit_number(n, degree, table);
+    answers::refused(number)
 }

@@ -1,11 +1,11 @@
 -- Records copied from two parallel lists, one after the other, and what has then become of the run.
 use mathlib.Core.Path.{_≡_, refl, sym, ap, ap₂, _∙_}
-use mathlib.Core.List.{List, [], _∷_, _++_, map}
+use mathlib.Core.List.{List, _++_}
 use Prim.Native.Nat.{ℕ, zero, suc, _≤_, _<_}
 use native.Mathlib.Omega.{arith}
 use lib.Ieee.{Float, binary32, ofBits}
-use lib.ListN.{length, getD, set, take, drop, length-set, length-map, List·getD-map, List·getD-append}
-use lib.Seq.{set-at, drop-cons, append-snoc, take-suc, length-take-le, take-length}
+use lib.ListN.{length, getD, set, take, drop}
+use lib.Seq.{set-at, drop-cons, append-snoc, take-suc, length-take-le}
 use Rattle.definition.specs.declared.Candidate.{Candidate}
 
 abbrev pub candidate : ℕ → Float → Candidate

@@ -1,17 +1,17 @@
 -- The public statement, from the number of a search with the records beside it, what an accepted one leaves, and the copy of its answers.
-use mathlib.Core.Path.{_≡_, refl, sym, ap, ap₂, _∙_, subst}
-use mathlib.Core.List.{List, [], _∷_, _++_, map}
-use Prim.Native.Nat.{ℕ, zero, suc, _+_, _≤_, _<_}
+use mathlib.Core.Path.{_≡_, sym, ap, ap₂, _∙_, subst}
+use mathlib.Core.List.{List, _++_, map}
+use Prim.Native.Nat.{ℕ, _+_, _≤_}
 use native.Mathlib.Omega.{arith}
-use lib.Ieee.{Float, binary32, ofBits}
-use lib.ListN.{length, getD, take, drop, length-map, length-append}
+use lib.Ieee.{Float}
+use lib.ListN.{length, drop, length-map, length-append}
 use lib.Seq.{take-all}
 use Rattle.definition.specs.declared.Candidate.{Candidate}
 use Rattle.definition.specs.Lists.{over}
 use Rattle.definition.specs.Metric.{whole}
 use Rattle.definition.specs.Beam.{Item, item}
 use Rattle.definition.specs.declared.Answer.{Answer}
-use Rattle.definition.specs.Refusals.{SearchCall, mostAnswers, recordsNumber}
+use Rattle.definition.specs.Refusals.{SearchCall, recordsNumber}
 use Rattle.definition.specs.Outcome.{answer, refused, found, foundIds, foundDists, foundRecords, searchDone, SearchOut, RecordsOut, recordsKept, recordsDone, recordsOut, RecordsMeets}
 use Rattle.accepted.specs.Outcomes.{by-refusal, by-success}
 use Rattle.checks_number.specs.SearchNumber.{with-records}

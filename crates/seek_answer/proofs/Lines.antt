@@ -11,11 +11,14 @@ use Rattle.definition.specs.Metric.{whole}
 use Rattle.definition.specs.Beam.{Item, nobody}
 use Rattle.definition.specs.Seek.{printItem, printFound}
 use Rattle.laws.specs.Members.{joined-snoc}
-use Rattle.whole.specs.Whole.{count-whole, is-whole}
-use Rattle.beam.specs.Held.{Small}
 use Rattle.laws.specs.All.{All, all-at}
+use Rattle.whole.specs.Whole.{limit, count-whole, is-whole}
 use Rattle.search.specs.Reading.{front-at}
 use Rattle.seek_print.specs.Printed.{Wholes, linesUp, foundText}
+
+-- its distance is one that an f32 holds
+abbrev pub Small : Item → Type 0
+Small c = c .dist ≤ limit
 
 module _ (items : List Item) (ids₀ ids : List ℕ) (dists₀ dists : List Float) (p : ids ≡ over (map (λ (a : Item). a .id) items) ids₀)
     (q : dists ≡ over (map (λ (a : Item). whole (a .dist)) items) dists₀) (t : All Small items) where

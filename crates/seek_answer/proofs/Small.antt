@@ -14,9 +14,9 @@ use Rattle.definition.specs.Seek.{wellFormed, theN, theDim, theDegree, theVecto
 use Rattle.theory.specs.Metric.{query-small}
 use Rattle.theory.specs.seek.Samples.{text-bytes}
 use Rattle.accepted.specs.Search.{search-accepted}
-use Rattle.beam.specs.Held.{Small}
 use Rattle.laws.specs.All.{All}
 use Rattle.seek_answer.proofs.Lent.{lentCall}
+use Rattle.seek_answer.proofs.Lines.{Small}
 use Rattle.seek_answer.proofs.Nearby.{all-answers}
 
 pub small-found : (vs words : List ℕ) (floats : List Float) (ids : List ℕ) (dists : List Float) → wellFormed vs ≡ true

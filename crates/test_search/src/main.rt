@@ -1,5 +1,5 @@
-// The searches of 01's samples, with what each leaves: its number and count, the answers' ids, whether their distances are the stated ones, the sum of the
-// words in the room and of those beyond it (7 each as lent), and the id after the answers (9 as lent).
+// The searches of 01's samples, and lookups of the line with stray words, with what each leaves: its number and count, the answers' ids, whether their
+// distances are the stated ones, the sum of the words in the room and of those beyond it (7 each as lent), and the id after the answers (9 as lent).
 
 use definition::Answer;
 use laws::least;
@@ -69,9 +69,8 @@ fn say_found(a: Answer, words: &[u32], ids: &[u32], dists: &[f32], stated: &[f32
     say(b"\n");
 }
 
-// A search of the line's table from entry 0, with vectors of one byte.
-fn show_search(vectors: &[u8], query: u8, beam: usize, k: usize, stated: &[f32]) {
-    let table = [1u32, PADDING, 0, 2, 1, 3, 2, PADDING];
+// A search of four entries of one byte by two words each, from entry 0.
+fn show_search(vectors: &[u8], table: &[u32], query: u8, beam: usize, k: usize, stated: &[f32]) {
     let asked = [query];
     let mut words = [7u32; 300];
     let mut floats = [7.0f32; 300];
@@ -85,7 +84,7 @@ fn show_search(vectors: &[u8], query: u8, beam: usize, k: usize, stated: &[f32])
         beam,
         k,
         0,
-        &table,
+        table,
         &asked,
         &mut words,
         &mut floats,
@@ -95,23 +94,71 @@ fn show_search(vectors: &[u8], query: u8, beam: usize, k: usize, stated: &[f32])
     say_found(a, &words, &ids, &dists, stated);
 }
 
+// The same as a lookup.
+fn show_lookup(vectors: &[u8], table: &[u32], query: u8, beam: usize, k: usize, stated: &[f32]) {
+    let asked = [query];
+    let mut words = [7u32; 300];
+    let mut floats = [7.0f32; 300];
+    let mut ids = [9u32; 9];
+    let mut dists = [9.0f32; 9];
+    let a = search::lookup(
+        4,
+        1,
+        vectors,
+        2,
+        beam,
+        k,
+        0,
+        table,
+        &asked,
+        &mut words,
+        &mut floats,
+        &mut ids,
+        &mut dists,
+    );
+    say_found(a, &words, &ids, &dists, stated);
+}
+
+// What fit says of a table of that degree for four entries.
+fn show_fit(degree: usize, table: &[u32]) {
+    let a = search::fit(4, degree, table);
+    say_field(a.number as u64);
+    say(b"\n");
+}
+
 fn main() {
     let line = [10u8, 20, 30, 40];
     let other = [10u8, 20, 30, 25];
+    let rows = [1u32, PADDING, 0, 2, 1, 3, 2, PADDING];
+    let stray = [4294967294u32, 1, 0, 2, 4, 3, 2, 5];
     say(b"query 38 beam 2 k 2: ");
-    show_search(&line, 38, 2, 2, &[4.0, 64.0]);
+    show_search(&line, &rows, 38, 2, 2, &[4.0, 64.0]);
     say(b"query 38 beam 1 k 2: ");
-    show_search(&line, 38, 1, 2, &[784.0]);
+    show_search(&line, &rows, 38, 1, 2, &[784.0]);
     say(b"query 38 beam 0 k 2: ");
-    show_search(&line, 38, 0, 2, &[784.0]);
+    show_search(&line, &rows, 38, 0, 2, &[784.0]);
     say(b"query 38 beam 8 k 8: ");
-    show_search(&line, 38, 8, 8, &[4.0, 64.0, 324.0, 784.0]);
+    show_search(&line, &rows, 38, 8, 8, &[4.0, 64.0, 324.0, 784.0]);
     say(b"query 25 beam 4 k 4: ");
-    show_search(&line, 25, 4, 4, &[25.0, 25.0, 225.0, 225.0]);
+    show_search(&line, &rows, 25, 4, 4, &[25.0, 25.0, 225.0, 225.0]);
     say(b"missed entry: ");
-    show_search(&other, 25, 2, 2, &[25.0, 25.0]);
+    show_search(&other, &rows, 25, 2, 2, &[25.0, 25.0]);
     say(b"query 38 beam 257 k 2: ");
-    show_search(&line, 38, 257, 2, &[0.0]);
+    show_search(&line, &rows, 38, 257, 2, &[0.0]);
     say(b"query 38 beam 4 k 0: ");
-    show_search(&line, 38, 4, 0, &[0.0]);
+    show_search(&line, &rows, 38, 4, 0, &[0.0]);
+    say(b"lookup of the line: ");
+    show_lookup(&line, &rows, 38, 2, 2, &[4.0, 64.0]);
+    say(b"lookup, stray words: ");
+    show_lookup(&line, &stray, 38, 2, 2, &[4.0, 64.0]);
+    say(b"search, stray words: ");
+    show_search(&line, &stray, 38, 2, 2, &[0.0]);
+    say(b"lookup, a word too few: ");
+    show_lookup(&line, &stray[0..7], 38, 2, 2, &[0.0]);
+    say(b"fit of the line: ");
+    show_fit(2, &rows);
+    say(b"fit, stray words: ");
+    show_fit(2, &stray);
+    say(b"fit, degree 65: ");
+    show_fit(65, &rows);
 }

@@ -11,8 +11,8 @@ called c = c .before .before .before .before .before .before .before .before .be
 stamps-at-requires : tie.Need-stamps-at-requires
 stamps-at-requires c κs = search needs
 
-stamps-end-requires : tie.Need-stamps-end-requires
-stamps-end-requires c κs = search needs
+pool-dists-at-requires : tie.Need-pool-dists-at-requires
+pool-dists-at-requires c κs = search needs
 
 sub-clear-words : tie.Need-sub-clear-words
 sub-clear-words c = search needs
@@ -45,7 +45,7 @@ fresh-rows-requires : tie.Need-fresh-rows-requires
 fresh-rows-requires c κs =
     let stamps = c .before .before .before .before .before .clear-words2 in
     let marks = c .before .before .before .before .before .before .before .before .before in
-    fresh-asks (called marks .pre) (marks .before .before .before .stamps-at .ensures) (marks .before .before .stamps-end .ensures)
+    fresh-asks (called marks .pre) (marks .before .before .before .stamps-at .ensures) (marks .before .before .pool-dists-at .ensures)
     _ _ (marks .clear-words .ensures) (stamps .ensures)
 
 merge-requires : tie.Need-merge-requires
@@ -53,7 +53,7 @@ merge-requires c κs =
     let rows = c .before .before .before .before .before .before .before in
     let stamps = rows .before .before .before .before .before .before .clear-words2 in
     let marks = rows .before .before .before .before .before .before .before .before .before .before in
-    merge-asks (called marks .pre) (marks .before .before .before .stamps-at .ensures) (marks .before .before .stamps-end .ensures)
+    merge-asks (called marks .pre) (marks .before .before .before .stamps-at .ensures) (marks .before .before .pool-dists-at .ensures)
     _ _ (marks .clear-words .ensures) (stamps .ensures) (rows .fresh-rows .ensures)
 
 same-length : tie.Need-same-length
@@ -71,7 +71,7 @@ returns c =
     let rows = merged .before .before .before .before .before .before .before .before in
     let stamps = rows .before .before .before .before .before .before .clear-words2 in
     let marks = rows .before .before .before .before .before .before .before .before .before .before in
-    batch-run (called marks .pre) (marks .before .before .before .stamps-at .ensures) (marks .before .before .stamps-end .ensures)
+    batch-run (called marks .pre) (marks .before .before .before .stamps-at .ensures) (marks .before .before .pool-dists-at .ensures)
     _ _ (marks .clear-words .ensures) (stamps .ensures) (rows .fresh-rows .ensures) (merged .merge .ensures)
 
 pub run-batch-spec : {M : Type 1} → statement M
@@ -79,7 +79,7 @@ run-batch-spec =
     tie.close
     (tie.spec
     stamps-at-requires
-    stamps-end-requires
+    pool-dists-at-requires
     sub-clear-words
     part-clear-words-start
     part-clear-words-end

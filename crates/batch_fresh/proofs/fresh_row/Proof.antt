@@ -1,5 +1,4 @@
 -- `fresh_row` meets its contract. The pool is the definition's in some order, so the row pruned from it is the definition's.
-use borrow.Author.Needs.{needs}
 use Rattle.batch_fresh.proofs.Making.{prune-asks, row-made, row-between}
 use Rattle.batch_fresh.proofs.fresh_row.Statement.{statement}
 use Rattle.theory.specs.Metric.{Bytes}
@@ -7,28 +6,30 @@ use Rattle.batch_fresh.proofs.fresh_row.Tie as tie
 
 -- from the collected pool back to the call
 abbrev called : tie.After-node-pool → tie.Start
-called c = c .before .before .before .before .before .before .before .before
+called c = c .before .before .before .before .before .before .before
 
 -- the vectors are bytes
 bytes : (c : tie.After-node-pool) → Bytes (called c .args .vectors .now)
-bytes c j = c .before .before .before .before .before .before .before .shared-slice-known .given j .fits
+bytes c j = c .before .before .before .before .before .before .shared-slice-known .given j .fits
 
 node-pool-requires : tie.Need-node-pool-requires
-node-pool-requires c κs = let s = c .before .before .before .before .before .before .before in (s .pre .0, (s .pre .1 .0, (s .pre .1 .1 .0, s .pre .1 .1 .1)))
+node-pool-requires c κs =
+    let s = c .before .before .before .before .before .before in
+    (s .pre .0, (s .pre .1 .0, (s .pre .1 .1 .0, s .pre .1 .1 .1 .1)))
 
 prune-fresh-requires : tie.Need-prune-fresh-requires
 prune-fresh-requires c κs =
-    let pooled = c .before .before .before .before .before .before in
+    let pooled = c .before .before .before .before in
     let s = called pooled in
-    prune-asks (s .pre .0) (bytes pooled) (pooled .node-pool .ensures) (s .pre .1 .1 .0) (s .pre .1 .1 .1 .place-in)
+    prune-asks (s .pre .0) (bytes pooled) (pooled .node-pool .ensures) (s .pre .1 .1 .0) (s .pre .1 .1 .1 .1 .place-in) (s .pre .1 .1 .1 .0)
 
 returns : tie.Need-returns
 returns c =
     let pruned = c .before .before .before .before in
-    let pooled = pruned .before .before .before .before .before .before .before in
+    let pooled = pruned .before .before .before .before .before in
     let s = called pooled in
     let ready = s .pre .1 .1 .0 in
-    let early = s .pre .1 .1 .1 .place-in in (
+    let early = s .pre .1 .1 .1 .1 .place-in in (
       row-made (s .pre .0) (bytes pooled) (pooled .node-pool .ensures) ready early (pruned .prune-fresh .ensures),
       row-between (s .pre .0) (bytes pooled) (pooled .node-pool .ensures) ready early (pruned .prune-fresh .ensures),
     )

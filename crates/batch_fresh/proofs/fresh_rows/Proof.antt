@@ -16,7 +16,7 @@ use Rattle.batch_fresh.proofs.fresh_rows.Tie as tie
 abbrev Inv-loop : tie.InvT-loop
 Inv-loop g vectors start nodes seeds wide words₀ floats₀ extra epoch₀ p₀ words floats epoch p =
     (p ≤ length nodes)
-    × Between (given g vectors) epoch p (lent words floats)
+    × Between (given g vectors) epoch p words
     × RowsMade (given g vectors) wide (listing start nodes seeds) (lent words₀ floats₀) (lent words floats) p
 
 abbrev μ-loop : tie.MeasureT-loop
@@ -35,7 +35,7 @@ group c =
     omega (arith, row-fits (c .before .loop .p) (length (a .nodes .now)) (a .g .params .extra) (c .loop-test .taken), s .pre .1 .1 .0 .groups)
 
 loop-holds : tie.Need-loop-holds Inv-loop μ-loop
-loop-holds c = (omega arith, c .before .before .before .before .before .before .pre .1 .1 .1, rows-none _ _ _ _)
+loop-holds c = (omega arith, c .before .before .before .before .before .before .pre .1 .1 .1 .0, rows-none _ _ _ _)
 
 mul-a : tie.Need-mul-a Inv-loop μ-loop
 mul-a c = omega (arith, group c, c .before .before .before .before .before .before .before .before .good .1 .1 .1 .1 .0)
@@ -65,7 +65,8 @@ fresh-row-requires : tie.Need-fresh-row-requires Inv-loop μ-loop
 fresh-row-requires c κs =
     let turn = c .before .before .before .before .before in
     let s = called turn in
-    (s .pre .0, (s .pre .1 .0, (turn .loop .inv .1, insertable (turn .loop .p) (s .pre .1 .1 .0) (c .before .before .before .before .loop-test .taken))))
+    let node = insertable (turn .loop .p) (s .pre .1 .1 .0) (c .before .before .before .before .loop-test .taken) in
+    (s .pre .0, (s .pre .1 .0, (turn .loop .inv .1, (omega (arith, s .pre .1 .1 .1 .1, turn .loop .inv .2 .floats-kept .size), node))))
 
 add-p : tie.Need-add-p Inv-loop μ-loop
 add-p c =

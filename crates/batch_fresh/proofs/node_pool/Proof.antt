@@ -1,5 +1,5 @@
 -- `node_pool` meets its contract. No stamp is the node's yet, so the pool begins empty; the part lent as the query is the node's vector.
-use mathlib.Core.Path.{_≡_, subst}
+use mathlib.Core.Path.{refl, subst}
 use Prim.Native.Nat.{ℕ, _+_, _*_, _≤_}
 use native.Mathlib.Omega.{arith}
 use mathlib.Core.List.{List}
@@ -22,10 +22,10 @@ fits c =
     omega (arith, row-fits (a .node) (a .g .n) (a .g .dim) (c .pre .1 .1 .1 .node-in), c .pre .0 .limits .vectors-are)
 
 mul-at : tie.Need-mul-at
-mul-at c = let s = c .before .before .before .before .before in omega (arith, fits s, s .good .1 .0)
+mul-at c = let s = c .before .before .before .before in omega (arith, fits s, s .good .1 .0)
 
 add-end : tie.Need-add-end
-add-end c = let s = c .before .before .before .before .before in omega (arith, fits s, s .good .1 .0)
+add-end c = let s = c .before .before .before .before in omega (arith, fits s, s .good .1 .0)
 
 add-stamp : tie.Need-add-stamp
 add-stamp c = search needs
@@ -40,19 +40,23 @@ part-collect-pool-start : tie.Need-part-collect-pool-start
 part-collect-pool-start c = search needs
 
 part-collect-pool-end : tie.Need-part-collect-pool-end
-part-collect-pool-end c = fits (c .before .before .before .before .before .before .before)
+part-collect-pool-end c = fits (c .before .before .before .before .before)
 
 collect-pool-requires : tie.Need-collect-pool-requires
 collect-pool-requires c κs =
-    let s = c .before .before .before .before .before .before .before .before in
+    let s = c .before .before .before .before .before .before in
     let a = s .args in
     let limits = s .pre .0 .limits in
     let i = s .pre .1 .1 .1 in
     let v = vector-in (a .g .dim) (a .vectors .now) (a .g .n) (a .node) (limits .vectors-are) (i .node-in) in (
       record {
-        measures = record { vectors-are = limits .vectors-are; query-is = lent-length (a .g .dim) (a .vectors .now) (a .node) v; few = limits .dim-few };
-        size = s .pre .1 .0 .size;
-        narrow = omega (arith, degree-slack (a .g .params .degree) (a .g .slack) (limits .width-is) (limits .degree-few) .1);
+        ground =
+            record {
+              measures = record { vectors-are = limits .vectors-are; query-is = lent-length (a .g .dim) (a .vectors .now) (a .node) v; few = limits .dim-few };
+              size = s .pre .1 .0 .size;
+              narrow = omega (arith, degree-slack (a .g .params .degree) (a .g .slack) (limits .width-is) (limits .degree-few) .1);
+            };
+        keeps = refl;
         rows = s .pre .1 .0 .words;
       },
       (holding-blank (s .pre .1 .1 .0), (i .node-in, i .start-in, i .seeds-in)),
@@ -60,25 +64,21 @@ collect-pool-requires c κs =
 
 returns : tie.Need-returns
 returns c =
-    let k = c .before .before .before .before .collect-pool in
-    let s = c .before .before .before .before .before .before .before .before .before .before .before .before .before in
+    let k = c .before .before .collect-pool in
+    let s = c .before .before .before .before .before .before .before .before .before in
     let a = s .args in
     let plan = planOf (given (a .g) (a .vectors .now)) in
     let from : List ℕ → ℕ → ℕ = fromQuery (a .g .dim) (a .vectors .now) in
     record {
       grown =
           subst
-          (λ (v : List ℕ). Grown plan (k .result .epoch) (stage (a .words .now) (a .floats .now) (a .p + 1) 0)
-          (stage (k .last .0) (k .last .1 .0) (a .p + 1) (k .result .len))
+          (λ (v : List ℕ). Grown plan (k .result .epoch) (stage (a .words .now) (a .p + 1) 0) (stage (k .last .0) (a .p + 1) (k .result .len))
           (pooledIds plan (from v) (a .wide .now) (a .node) (a .start) (a .seeds .now)) (from v))
           (lent-vector (a .g .dim) (a .vectors .now) (a .node)) (k .ensures);
     }
 
 same-length : tie.Need-same-length
-same-length c = returns c .grown .words-kept .size
-
-same-length-2 : tie.Need-same-length-2
-same-length-2 c = returns c .grown .floats-kept .size
+same-length c = returns c .grown .kept .size
 
 pub node-pool-spec : {M : Type 1} → statement M
 node-pool-spec =
@@ -93,5 +93,4 @@ node-pool-spec =
     part-collect-pool-end
     collect-pool-requires
     same-length
-    same-length-2
     returns)

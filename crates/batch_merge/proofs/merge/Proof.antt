@@ -11,15 +11,6 @@ called c = c .before .before .before .before .before .before .before
 link-requires : tie.Need-link-requires
 link-requires c κs = search needs
 
-factors-at-requires : tie.Need-factors-at-requires
-factors-at-requires c κs = search needs
-
-factors-end-requires : tie.Need-factors-end-requires
-factors-end-requires c κs = search needs
-
-mul-merge-rows : tie.Need-mul-merge-rows
-mul-merge-rows c = search needs
-
 sub-merge-rows : tie.Need-sub-merge-rows
 sub-merge-rows c = search needs
 
@@ -31,9 +22,8 @@ part-merge-rows-end c = search needs
 
 merge-rows-requires : tie.Need-merge-rows-requires
 merge-rows-requires c κs =
-    let ended = c .before .before .before in
-    let linked = ended .before .before .before .before in
-    rows-asks (called linked .pre) (linked .link .ensures) (ended .before .factors-at .ensures) (ended .factors-end .ensures)
+    let linked = c .before .before .before .before .before in
+    rows-asks (called linked .pre) (linked .link .ensures)
 
 same-length : tie.Need-same-length
 same-length c = search needs
@@ -48,19 +38,14 @@ returns : tie.Need-returns
 returns c =
     let rows = c .before .before .before .before in
     let merged = rows .merge-rows in
-    let ended = rows .before .before .before .before in
-    let linked = ended .before .before .before .before in
-    all-done (called linked .pre) (linked .link .ensures) (ended .before .factors-at .ensures) (ended .factors-end .ensures)
-    (merged .last .1 .1 .1 .1 .1 .0) (merged .ensures) (merged .kept .1 .1 .1 .1 .1 .0)
+    let linked = rows .before .before .before .before .before .before in
+    all-done (called linked .pre) (linked .link .ensures) (merged .last .1 .1 .1 .1 .1 .0) (merged .ensures) (merged .kept .1 .1 .1 .1 .1 .0)
 
 pub merge-spec : {M : Type 1} → statement M
 merge-spec =
     tie.close
     (tie.spec
     link-requires
-    factors-at-requires
-    factors-end-requires
-    mul-merge-rows
     sub-merge-rows
     part-merge-rows-start
     part-merge-rows-end

@@ -1,7 +1,7 @@
 -- `merge_row` meets its contract: the node's ids are gathered, then fitted to its row.
 use borrow.Author.Needs.{needs}
+use Prim.Native.Nat.{ℕ}
 use lib.ListN.{replicate, length-replicate}
-use lib.Ieee.{ofBits, binary32}
 use Rattle.batch_affected.specs.Says.{mergedMost}
 use Rattle.batch_merge.proofs.OneRow.{gather-asks, fit-asks, row-merged}
 use Rattle.batch_merge.proofs.merge_row.Statement.{statement}
@@ -26,11 +26,11 @@ gather-node-requires c κs =
 sub-fit-row : tie.Need-sub-fit-row
 sub-fit-row c = search needs
 
-part-ids-start : tie.Need-part-ids-start
-part-ids-start c = search needs
+part-fit-row-start : tie.Need-part-fit-row-start
+part-fit-row-start c = search needs
 
-part-ids-end : tie.Need-part-ids-end
-part-ids-end c = search needs
+part-fit-row-end : tie.Need-part-fit-row-end
+part-fit-row-end c = search needs
 
 sub-fit-row-2 : tie.Need-sub-fit-row-2
 sub-fit-row-2 c = search needs
@@ -43,11 +43,11 @@ part-dists-end c = search needs
 
 fit-row-requires : tie.Need-fit-row-requires
 fit-row-requires c κs =
-    let worded = c .before .before .before .before .before .before .before .before in
+    let worded = c .before .before .before .before .before .before .before .before .before in
     let s = called worded in
-    let list = c .before .before .before .before .before .gather-node in
+    let list = c .before .before .before .before .before .before .gather-node in
     fit-asks (s .pre .0) (worded .word-of .ensures) (list .ensures)
-    (replicate mergedMost (ofBits binary32 0)) _ (list .kept .1 .1 .1 .1 .1 .1 .0) (length-replicate mergedMost (ofBits binary32 0)) (s .pre .1)
+    (replicate mergedMost 0) _ (list .kept .1 .1 .1 .1 .1 .1 .0) (length-replicate {A = ℕ} mergedMost 0) (s .pre .1)
 
 same-length : tie.Need-same-length
 same-length c = search needs
@@ -60,7 +60,7 @@ returns c =
     let gathered = c .before .before .before .before .before .before .before .before .before .before .before .before in
     let worded = gathered .before .before .before in
     let s = called worded in
-    row-merged (s .pre .0) (worded .word-of .ensures) (gathered .gather-node .ensures) (c .before .before .before .before .before .before .fit-row .ensures)
+    row-merged (s .pre .0) (worded .word-of .ensures) (gathered .gather-node .ensures) (c .before .before .before .before .before .fit-row .ensures)
 
 pub merge-row-spec : {M : Type 1} → statement M
 merge-row-spec =
@@ -70,8 +70,8 @@ merge-row-spec =
     slice-aggregate-gather-node
     gather-node-requires
     sub-fit-row
-    part-ids-start
-    part-ids-end
+    part-fit-row-start
+    part-fit-row-end
     sub-fit-row-2
     part-dists-start
     part-dists-end

@@ -9,7 +9,7 @@ use Rattle.batch_pool.proofs.add_once.Tie as tie
 
 -- an id that is not in the pool finds room
 free : (c : tie.Else1) → c .before .before .args .len < c .before .before .args .n
-free c = let s = c .before .before in pooled-room (s .pre .0) (s .args .id) (s .args .dist) (s .pre .1 .2) (c .if1 .left)
+free c = let s = c .before .before in pooled-room (s .pre .0) (s .args .id) (s .args .dist) (s .pre .1 .1) (c .if1 .left)
 
 add-mark : tie.Need-add-mark
 add-mark c = search needs
@@ -21,7 +21,13 @@ slice-read-if1 : tie.Need-slice-read-if1
 slice-read-if1 c = search needs
 
 returns : tie.Need-returns
-returns c = let s = c .before .before in added-seen (s .pre .0) (s .args .id) (s .args .dist) (s .pre .1 .2) (c .if1 .taken)
+returns c = let s = c .before .before in added-seen (s .pre .0) (s .args .id) (s .args .dist) (s .pre .1 .1) (c .if1 .taken)
+
+mul-at : tie.Need-mul-at
+mul-at c = search needs
+
+add-at : tie.Need-add-at
+add-at c = omega (arith, free c, c .before .before .pre .1 .0)
 
 mul-pool : tie.Need-mul-pool
 mul-pool c = search needs
@@ -35,11 +41,11 @@ mul-pool-2 c = omega (arith, free c, c .before .before .pre .1 .0)
 slice-write-pool-2 : tie.Need-slice-write-pool-2
 slice-write-pool-2 c = simp length-set (omega (arith, free c, c .before .before .pre .0 .size))
 
-mul-dists : tie.Need-mul-dists
-mul-dists c = omega (arith, free c, c .before .before .pre .1 .0)
+mul-pool-3 : tie.Need-mul-pool-3
+mul-pool-3 c = omega (arith, free c, c .before .before .pre .1 .0)
 
-slice-write-dists : tie.Need-slice-write-dists
-slice-write-dists c = omega (arith, free c, c .before .before .pre .1 .1)
+slice-write-pool-3 : tie.Need-slice-write-pool-3
+slice-write-pool-3 c = simp length-set (omega (arith, free c, c .before .before .pre .0 .size))
 
 add-result : tie.Need-add-result
 add-result c = omega (arith, free c, c .before .before .pre .1 .0)
@@ -47,11 +53,8 @@ add-result c = omega (arith, free c, c .before .before .pre .1 .0)
 same-length : tie.Need-same-length
 same-length c = search needs
 
-same-length-2 : tie.Need-same-length-2
-same-length-2 c = search needs
-
 returns-2 : tie.Need-returns-2
-returns-2 c = let s = c .before .before in added-new (s .pre .0) (s .args .id) (s .args .dist) (s .pre .1 .2) (c .if1 .left) (s .pre .1 .1)
+returns-2 c = let s = c .before .before in added-new (s .pre .0) (s .args .id) (s .args .dist) (s .pre .1 .1) (c .if1 .left)
 
 pub add-once-spec : {M : Type 1} → statement M
 add-once-spec =
@@ -61,13 +64,14 @@ add-once-spec =
     mul-if1
     slice-read-if1
     returns
+    mul-at
+    add-at
     mul-pool
     slice-write-pool
     mul-pool-2
     slice-write-pool-2
-    mul-dists
-    slice-write-dists
+    mul-pool-3
+    slice-write-pool-3
     add-result
     same-length
-    same-length-2
     returns-2)

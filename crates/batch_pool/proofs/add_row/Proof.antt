@@ -12,14 +12,14 @@ use Rattle.batch_pool.proofs.add_row.Statement.{statement}
 use Rattle.batch_pool.proofs.add_row.Tie as tie
 
 abbrev Inv-loop : tie.InvT-loop
-Inv-loop pool₀ dists₀ n stamp row dim vectors query len₀ k₀ pool dists len k =
-    RowSoFar n row (fromQuery dim vectors query) (poolAs pool₀ dists₀ stamp 0) (poolAs pool dists stamp len) k
+Inv-loop pool₀ n stamp row dim vectors query len₀ k₀ pool len k =
+    RowSoFar n row (fromQuery dim vectors query) (poolAs pool₀ stamp 0) (poolAs pool stamp len) k
 
 abbrev μ-loop : tie.MeasureT-loop
-μ-loop pool₀ dists₀ n stamp row dim vectors query len₀ k₀ pool dists len k = length row - k
+μ-loop pool₀ n stamp row dim vectors query len₀ k₀ pool len k = length row - k
 
 loop-holds : tie.Need-loop-holds Inv-loop μ-loop
-loop-holds c = let s = c .before .before .before .before .before in row-start _ _ _ _ (s .pre .0)
+loop-holds c = let s = c .before .before .before .before in row-start _ _ _ _ (s .pre .0)
 
 mul-id : tie.Need-mul-id Inv-loop μ-loop
 mul-id c = search needs
@@ -33,17 +33,17 @@ cast-from-query c = omega (arith, c .before .shared-slice-known4 .given (c .befo
 from-query-requires : tie.Need-from-query-requires Inv-loop μ-loop
 from-query-requires c κs =
     let l = c .before .before .before in
-    let s = l .before .before .before .before .before .before in
+    let s = l .before .before .before .before .before in
     let m = s .pre .1 .1 .0 in
     (vector-in _ _ _ _ (m .vectors-are) (s .pre .1 .1 .1 (l .loop .k) (omega arith) (c .if1 .taken)), (m .query-is, m .few))
 
 add-once-requires : tie.Need-add-once-requires Inv-loop μ-loop
 add-once-requires c κs =
-    let b = c .before .before .before in
+    let b = c .before .before in
     let l = b .before .before .before in
-    let s = l .before .before .before .before .before .before in
+    let s = l .before .before .before .before .before in
     let low = s .pre .1 .1 .1 (l .loop .k) (omega arith) (b .if1 .taken) in
-    (l .loop .inv .added .pooled, (s .pre .1 .0 .0, omega (arith, s .pre .1 .0 .1, l .loop .inv .size), low))
+    (l .loop .inv .added .pooled, (s .pre .1 .0, low))
 
 add-k : tie.Need-add-k Inv-loop μ-loop
 add-k c = search needs
@@ -54,19 +54,16 @@ loop-less c = omega arith
 loop-again : tie.Need-loop-again Inv-loop μ-loop
 loop-again c =
     let l = c .before .before .before in
-    let s = l .before .before .before .before .before .before in
+    let s = l .before .before .before .before .before in
     let h : l .loop .k < length (s .args .row .now) = omega arith in
     ⊎-elim
-    (λ w. rw (w .9, w .10, w .11)
-    (row-real _ _ _ _ _ (l .loop .k) (l .loop .inv) h (w .0 .taken) _ (w .1 .result) (w .4 .kept .1 .0) (w .1 .ensures .is) (w .4 .ensures)))
-    (λ w. rw (w .1, w .2, w .3) (row-pad _ _ _ _ _ (l .loop .k) (l .loop .inv) h (w .0 .left)))
+    (λ w. rw (w .6, w .7)
+    (row-real _ _ _ _ _ (l .loop .k) (l .loop .inv) h (w .0 .taken) _ (w .1 .result) (w .1 .ensures .is) (w .3 .ensures)))
+    (λ w. rw (w .1, w .2) (row-pad _ _ _ _ _ (l .loop .k) (l .loop .inv) h (w .0 .left)))
     (c .if1 .came)
 
 same-length : tie.Need-same-length Inv-loop μ-loop
 same-length c = search needs
-
-same-length-2 : tie.Need-same-length-2 Inv-loop μ-loop
-same-length-2 c = search needs
 
 returns : tie.Need-returns Inv-loop μ-loop
 returns c =
@@ -89,5 +86,4 @@ add-row-spec =
     loop-less
     loop-again
     same-length
-    same-length-2
     returns)

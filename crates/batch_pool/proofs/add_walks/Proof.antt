@@ -12,16 +12,16 @@ use Rattle.batch_pool.proofs.add_walks.Statement.{statement}
 use Rattle.batch_pool.proofs.add_walks.Tie as tie
 
 abbrev Inv-loop : tie.InvT-loop
-Inv-loop words₀ floats₀ vectors query wide p stamp seeds s₀ k₀ words floats s k =
-    (k ≤ length seeds) × Grown p (s .epoch) (stage words₀ floats₀ stamp (s₀ .len)) (stage words floats stamp (s .len))
+Inv-loop words₀ vectors query wide p stamp seeds s₀ k₀ words s k =
+    (k ≤ length seeds) × Grown p (s .epoch) (stage words₀ stamp (s₀ .len)) (stage words stamp (s .len))
     (joined (map (visits p (fromQuery (p .dim) vectors query) wide) (take k seeds))) (fromQuery (p .dim) vectors query)
 
 abbrev μ-loop : tie.MeasureT-loop
-μ-loop words₀ floats₀ vectors query wide p stamp seeds s₀ k₀ words floats s k = length seeds - k
+μ-loop words₀ vectors query wide p stamp seeds s₀ k₀ words s k = length seeds - k
 
 loop-holds : tie.Need-loop-holds Inv-loop μ-loop
 loop-holds c =
-    let s = c .before .before .before .before .before .before in
+    let s = c .before .before .before .before .before in
     let d = fromQuery (s .args .p .dim) (s .args .vectors .now) (s .args .query .now) in
     (omega arith, rw (joined-none (visits (s .args .p) d (s .args .wide .now))) (grown-none _ _ _ _ (s .pre .1 .0)))
 
@@ -33,41 +33,38 @@ shared-slice-read-add-walk c = search needs
 
 add-walk-requires : tie.Need-add-walk-requires Inv-loop μ-loop
 add-walk-requires c κs =
-    let l = c .before .before .before .before in
-    let s = l .before .before .before .before .before .before .before in
+    let l = c .before .before .before in
+    let s = l .before .before .before .before .before .before in
     (s .pre .0, (l .loop .inv .1 .holding, s .pre .1 .1 (l .loop .k) (omega arith)))
 
 add-k : tie.Need-add-k Inv-loop μ-loop
 add-k c =
-    let l = c .before .before .before .before .before .before .before .before in
-    let s = l .before .before .before .before .before .before .before .before in
-    omega (arith, l .loop-test .taken, s .good .1 .1 .1 .1 .1 .1 .1 .0)
+    let l = c .before .before .before .before .before in
+    let s = l .before .before .before .before .before .before .before in
+    omega (arith, l .loop-test .taken, s .good .1 .1 .1 .1 .1 .1 .0)
 
 loop-less : tie.Need-loop-less Inv-loop μ-loop
 loop-less c = omega arith
 
 loop-again : tie.Need-loop-again Inv-loop μ-loop
 loop-again c =
-    let a = c .before .before .before .before in
-    let l = a .before .before .before .before .before in
-    let s = l .before .before .before .before .before .before .before in
+    let a = c .before .before in
+    let l = a .before .before .before .before in
+    let s = l .before .before .before .before .before .before in
     let d = fromQuery (s .args .p .dim) (s .args .vectors .now) (s .args .query .now) in
-    let h : l .loop .k < length (s .args .seeds .now) = a .before .before .before .before .loop-test .taken in (
+    let h : l .loop .k < length (s .args .seeds .now) = a .before .before .before .loop-test .taken in (
       omega arith,
       rw (joined-next (visits (s .args .p) d (s .args .wide .now)) (s .args .seeds .now) (l .loop .k) h)
           (grown-then _ _ _ _ _ _ _ _ _ (l .loop .inv .1) (a .add-walk .ensures)),
     )
 
 same-length : tie.Need-same-length Inv-loop μ-loop
-same-length c = c .before .loop .inv .1 .words-kept .size
-
-same-length-2 : tie.Need-same-length-2 Inv-loop μ-loop
-same-length-2 c = c .before .loop .inv .1 .floats-kept .size
+same-length c = c .before .loop .inv .1 .kept .size
 
 returns : tie.Need-returns Inv-loop μ-loop
 returns c =
     let l = c .before in
-    let s = l .before .before .before .before .before .before .before in
+    let s = l .before .before .before .before .before .before in
     let d = fromQuery (s .args .p .dim) (s .args .vectors .now) (s .args .query .now) in
     rw (joined-all (visits (s .args .p) d (s .args .wide .now)) (s .args .seeds .now) (l .loop .k) (omega arith)) at (l .loop .inv .1)
 
@@ -85,5 +82,4 @@ add-walks-spec =
     loop-less
     loop-again
     same-length
-    same-length-2
     returns)

@@ -1,7 +1,5 @@
--- `collect_pool`. The row, the walk from the start and those from the seeds, one after another. The row goes into the pool's regions, lent at the layout's
+-- `collect_pool`. The row, the walk from the start and those from the seeds, one after another. The row goes into the pool's region, lent at the layout's
 -- offsets.
-use mathlib.Core.Path.{sym}
-use native.Mathlib.Nat.{le-of-eq}
 use Prim.Native.Nat.{_+_, _*_, _≤_}
 use native.Mathlib.Omega.{arith}
 use lib.ListN.{length}
@@ -11,48 +9,39 @@ use Rattle.laws.specs.Parts.{part}
 use Rattle.laws.specs.Words.{searchable-part}
 use Rattle.greedy.specs.Scratch.{row-in}
 use Rattle.batch_pool.specs.Regions.{stage, Grown}
-use Rattle.batch_pool.proofs.Lending.{dists-length, returned}
+use Rattle.batch_pool.proofs.Lending.{returned}
 use Rattle.batch_pool.proofs.Growing.{grown-row, grown-pool}
 use borrow.Author.Needs.{needs}
 use Rattle.batch_pool.proofs.collect_pool.Statement.{statement}
 use Rattle.batch_pool.proofs.collect_pool.Tie as tie
 
+-- from where the pool was found back to the call
+abbrev called : tie.After-pool-end → tie.Start
+called c = c .before .before .before .before .before .before .before
+
 -- the row is within the wide table
-fits : (c : tie.After-factors-at)
-    → let a = c .before .before .before .before .before .before .before .before .before .before .args in
-    (a .node * a .p .width + a .p .width ≤ length (a .wide .now)) × (length (a .wide .now) ≤ 8388608)
-fits c =
-    let s = c .before .before .before .before .before .before .before .before .before .before in
-    row-in (s .pre .0) (s .pre .1 .0 .room .space .nodes) (s .args .node) (s .pre .1 .1 .0)
+fits : (c : tie.After-pool-end)
+    → let a = called c .args in (a .node * a .p .width + a .p .width ≤ length (a .wide .now)) × (length (a .wide .now) ≤ 8388608)
+fits c = let s = called c in row-in (s .pre .0 .ground) (s .pre .1 .0 .room .space .nodes) (s .args .node) (s .pre .1 .1 .0)
 
 -- the row was added
 row-grown : (c : tie.After-add-row)
-    → let a = c .before .before .before .before .before .before .before .before .before .before .before .before .before .before .args in
-    let s₀ = stage (a .words .now) (a .floats .now) (a .stamp) 0 in
-    Grown (a .p) (a .epoch) s₀ (returned (a .p .n) s₀ (c .add-row .last .0) (c .add-row .last .1 .0) (c .add-row .result))
-    (ids (part (a .node * a .p .width) (a .node * a .p .width + a .p .width) (a .wide .now)))
-    (fromQuery (a .p .dim) (a .vectors .now) (a .query .now))
+    → let a = called (c .before .before .before) .args in
+    let s₀ = stage (a .words .now) (a .stamp) 0 in
+    Grown (a .p) (a .epoch) s₀ (returned (a .p .n) s₀ (c .add-row .last .0) (c .add-row .result))
+    (ids (part (a .node * a .p .width) (a .node * a .p .width + a .p .width) (a .wide .now))) (fromQuery (a .p .dim) (a .vectors .now) (a .query .now))
 row-grown c =
-    let o = c .before .before .before .before in
-    let s = o .before .before .before .before .before .before .before .before .before .before in
+    let o = c .before .before .before in
     let r = c .add-row in
-    let pa = o .before .before .before .pool-at .ensures in
-    let pe = o .before .before .stamps-end .ensures in
-    let da = o .before .pool-dists-at .ensures in
-    let de = o .factors-at .ensures in
-    grown-row _ _ _ _ (s .pre .1 .0) _ _ (rw (pa, pe) at (r .kept .0)) (rw (da, de) at (r .kept .1 .0)) _ _ (rw (pa, pe, da, de) at (r .ensures))
+    let pa = o .before .pool-at .ensures in
+    let pe = o .pool-end .ensures in
+    grown-row _ _ _ _ (called o .pre .1 .0) _ (rw (pa, pe) at (r .kept .0)) _ _ (rw (pa, pe) at (r .ensures))
 
 pool-at-requires : tie.Need-pool-at-requires
 pool-at-requires c κs = search needs
 
-stamps-end-requires : tie.Need-stamps-end-requires
-stamps-end-requires c κs = search needs
-
-pool-dists-at-requires : tie.Need-pool-dists-at-requires
-pool-dists-at-requires c κs = search needs
-
-factors-at-requires : tie.Need-factors-at-requires
-factors-at-requires c κs = search needs
+pool-end-requires : tie.Need-pool-end-requires
+pool-end-requires c κs = search needs
 
 mul-at : tie.Need-mul-at
 mul-at c = omega (arith, fits c)
@@ -73,7 +62,7 @@ part-add-row-end : tie.Need-part-add-row-end
 part-add-row-end c = search needs
 
 mul-add-row-2 : tie.Need-mul-add-row-2
-mul-add-row-2 c = search needs
+mul-add-row-2 c = omega (arith, fits (c .before))
 
 sub-add-row-2 : tie.Need-sub-add-row-2
 sub-add-row-2 c = search needs
@@ -82,75 +71,53 @@ part-add-row-start-2 : tie.Need-part-add-row-start-2
 part-add-row-start-2 c = search needs
 
 part-add-row-end-2 : tie.Need-part-add-row-end-2
-part-add-row-end-2 c = search needs
-
-mul-add-row-3 : tie.Need-mul-add-row-3
-mul-add-row-3 c = omega (arith, fits (c .before .before))
-
-sub-add-row-3 : tie.Need-sub-add-row-3
-sub-add-row-3 c = search needs
-
-part-add-row-start-3 : tie.Need-part-add-row-start-3
-part-add-row-start-3 c = search needs
-
-part-add-row-end-3 : tie.Need-part-add-row-end-3
-part-add-row-end-3 c = omega (arith, fits (c .before .before))
+part-add-row-end-2 c = omega (arith, fits (c .before))
 
 add-row-requires : tie.Need-add-row-requires
 add-row-requires c κs =
-    let o = c .before .before .before in
-    let s = o .before .before .before .before .before .before .before .before .before .before in
+    let o = c .before .before in
+    let s = called o in
     let h = s .pre .1 .0 in
     let from = s .args .node * s .args .p .width in
-    rw (o .before .before .before .pool-at .ensures, o .before .before .stamps-end .ensures, o .before .pool-dists-at .ensures, o .factors-at .ensures) (
+    rw (o .before .pool-at .ensures, o .pool-end .ensures) (
       h .pooled,
       (
-        (h .room .space .nodes, le-of-eq (sym (dists-length (s .args .p .n) (s .args .floats .now) (h .float-room)))),
-        (s .pre .0 .measures, searchable-part _ (s .args .wide .now) from (from + s .args .p .width) (s .pre .0 .rows)),
+        h .room .space .nodes,
+        (s .pre .0 .ground .measures, searchable-part _ (s .args .wide .now) from (from + s .args .p .width) (s .pre .0 .rows)),
       ),
     )
 
 add-walk-requires : tie.Need-add-walk-requires
 add-walk-requires c κs =
-    let r = c .before .before .before .before .before .before in
-    let o = r .before .before .before .before in
-    let s = o .before .before .before .before .before .before .before .before .before .before in
-    rw (o .before .before .before .pool-at .ensures, o .before .before .stamps-end .ensures, o .before .pool-dists-at .ensures, o .factors-at .ensures)
-    (s .pre .0, (row-grown r .holding, s .pre .1 .1 .1))
+    let r = c .before .before .before in
+    let o = r .before .before .before in
+    let s = called o in
+    rw (o .before .pool-at .ensures, o .pool-end .ensures) (s .pre .0, (row-grown r .holding, s .pre .1 .1 .1))
 
 add-walks-requires : tie.Need-add-walks-requires
 add-walks-requires c κs =
-    let a = c .before .before .before .before .before .before in
-    let r = a .before .before .before .before .before .before .before in
-    let o = r .before .before .before .before in
-    let s = o .before .before .before .before .before .before .before .before .before .before in
+    let a = c .before .before .before in
+    let s = called (a .before .before .before .before .before .before .before) in
     (s .pre .0, (a .add-walk .ensures .holding, s .pre .1 .1 .2))
 
 returns : tie.Need-returns
 returns c =
-    let z = c .before .before .before .before in
-    let a = z .before .before .before .before .before .before .before in
-    let r = a .before .before .before .before .before .before .before in
-    let o = r .before .before .before .before in
-    let walk =
-    rw (o .before .before .before .pool-at .ensures, o .before .before .stamps-end .ensures, o .before .pool-dists-at .ensures, o .factors-at .ensures)
-    at (a .add-walk .ensures) in
+    let z = c .before .before in
+    let a = z .before .before .before .before in
+    let r = a .before .before .before .before in
+    let o = r .before .before .before in
+    let walk = rw (o .before .pool-at .ensures, o .pool-end .ensures) at (a .add-walk .ensures) in
     grown-pool _ _ _ _ _ _ _ _ _ _ _ _ _ (row-grown r) walk (z .add-walks .ensures)
 
 same-length : tie.Need-same-length
-same-length c = returns c .words-kept .size
-
-same-length-2 : tie.Need-same-length-2
-same-length-2 c = returns c .floats-kept .size
+same-length c = returns c .kept .size
 
 pub collect-pool-spec : {M : Type 1} → statement M
 collect-pool-spec =
     tie.close
     (tie.spec
     pool-at-requires
-    stamps-end-requires
-    pool-dists-at-requires
-    factors-at-requires
+    pool-end-requires
     mul-at
     add-end
     mul-add-row
@@ -161,13 +128,8 @@ collect-pool-spec =
     sub-add-row-2
     part-add-row-start-2
     part-add-row-end-2
-    mul-add-row-3
-    sub-add-row-3
-    part-add-row-start-3
-    part-add-row-end-3
     add-row-requires
     add-walk-requires
     add-walks-requires
     same-length
-    same-length-2
     returns)

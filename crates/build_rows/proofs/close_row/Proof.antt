@@ -1,9 +1,9 @@
 -- `close_row` meets its contract: the row's ids are copied, then fitted to the degree.
+use Prim.Native.Nat.{ℕ}
 use native.Mathlib.Omega.{arith}
 use borrow.Author.Needs.{needs}
 use lib.ListN.{replicate, length-replicate}
-use lib.Ieee.{ofBits, binary32}
-use Rattle.given.specs.Given.{widest}
+use Rattle.scratch.specs.Layout.{widest}
 use Rattle.build_rows.proofs.Closing.{lent-few, copied-few, row-asks, row-closed}
 use Rattle.build_rows.proofs.close_row.Statement.{statement}
 use Rattle.build_rows.proofs.close_row.Tie as tie
@@ -42,12 +42,12 @@ copy-ids-requires c κs = lent-few (c .before .before .before .before .before .b
 sub-fit-row : tie.Need-sub-fit-row
 sub-fit-row c = search needs
 
-part-ids-start : tie.Need-part-ids-start
-part-ids-start c = search needs
+part-fit-row-start : tie.Need-part-fit-row-start
+part-fit-row-start c = search needs
 
-part-ids-end : tie.Need-part-ids-end
-part-ids-end c =
-    let copied = c .before .before in
+part-fit-row-end : tie.Need-part-fit-row-end
+part-fit-row-end c =
+    let copied = c .before .before .before in
     omega (arith, copied .copy-ids .kept .1 .0, copied-few (called copied .pre) (copied .copy-ids .ensures))
 
 sub-fit-row-2 : tie.Need-sub-fit-row-2
@@ -58,15 +58,15 @@ part-dists-start c = search needs
 
 part-dists-end : tie.Need-part-dists-end
 part-dists-end c =
-    let copied = c .before .before .before in
+    let copied = c .before .before .before .before in
     omega (arith, copied-few (called copied .pre) (copied .copy-ids .ensures))
 
 fit-row-requires : tie.Need-fit-row-requires
 fit-row-requires c κs =
-    let copied = c .before .before .before .before .before in
+    let copied = c .before .before .before .before .before .before in
     let list = copied .copy-ids in
-    row-asks (called copied .pre) (list .ensures) (copied .before .before .before .word-of .ensures) (replicate widest (ofBits binary32 0)) (list .kept .1 .0)
-    (length-replicate widest (ofBits binary32 0))
+    row-asks (called copied .pre) (list .ensures) (copied .before .before .before .word-of .ensures) (replicate widest 0) (list .kept .1 .0)
+    (length-replicate {A = ℕ} widest 0)
 
 same-length : tie.Need-same-length
 same-length c = search needs
@@ -77,7 +77,7 @@ same-length-2 c = search needs
 returns : tie.Need-returns
 returns c =
     let copied = c .before .before .before .before .before .before .before .before .before .before .before .before in
-    let fitted = c .before .before .before .before .before .before .fit-row in
+    let fitted = c .before .before .before .before .before .fit-row in
     row-closed (called copied .pre) (copied .copy-ids .ensures) (copied .before .before .before .word-of .ensures) (fitted .ensures)
 
 pub close-row-spec : {M : Type 1} → statement M
@@ -94,8 +94,8 @@ close-row-spec =
     slice-aggregate-copy-ids
     copy-ids-requires
     sub-fit-row
-    part-ids-start
-    part-ids-end
+    part-fit-row-start
+    part-fit-row-end
     sub-fit-row-2
     part-dists-start
     part-dists-end

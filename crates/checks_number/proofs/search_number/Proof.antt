@@ -1,12 +1,9 @@
 -- `search_number` meets its contract.
-use mathlib.Core.Path.{refl, sym, ap, _∙_}
-use mathlib.Core.Bool.{not}
-use borrow.Author.Tests.{eq-eqb, ne-eqb}
+use mathlib.Core.Path.{sym, _∙_}
 use borrow.Author.Needs.{needs}
 use Rattle.accepted.specs.Checks.{vectors-good, degree-good}
-use Rattle.checks_number.specs.Tests.{Tests, holdsAt, numberAt, Clear, past-one, found, nothing, early}
-use Rattle.checks_number.specs.Shared.{entries-clear}
-use Rattle.checks_number.specs.SearchNumber.{searchTests, search-numbered}
+use Rattle.checks_number.specs.Tests.{Tests, holdsAt, numberAt, Clear, past-one, found, rest, early}
+use Rattle.checks_number.specs.SearchNumber.{limits-clear, searchTests, search-numbered}
 use Rattle.checks_number.proofs.search_number.Statement.{statement}
 use Rattle.checks_number.proofs.search_number.Tie as tie
 
@@ -19,116 +16,44 @@ tests s =
 abbrev start-1 : tie.Else1 → tie.Start
 start-1 c = c .before .before .before .before .before
 
-clear-1 : (c : tie.Else1) → Clear 2 (tests (start-1 c))
-clear-1 c = record { no = entries-clear _ _ _ (sym (c .before .entries-number .ensures) ∙ c .if1 .left) }
+clear-1 : (c : tie.Else1) → Clear 5 (tests (start-1 c))
+clear-1 c = record { no = limits-clear _ _ _ _ _ _ (sym (c .before .limits-number .ensures) ∙ c .if1 .left) }
 
 abbrev start-2 : tie.Else2 → tie.Start
 start-2 c = start-1 (c .before .before)
 
-clear-2 : (c : tie.Else2) → Clear 3 (tests (start-2 c))
+clear-2 : (c : tie.Else2) → Clear 6 (tests (start-2 c))
 unfolding holdsAt
-clear-2 c = past-one (clear-1 (c .before .before)) (c .before .bad-degree .ensures) (c .if2 .left)
+clear-2 c = past-one (clear-1 (c .before .before)) (c .before .bad-searched .ensures) (c .if2 .left)
 
-abbrev start-3 : tie.Else3 → tie.Start
-start-3 c = start-2 (c .before .before)
-
-clear-3 : (c : tie.Else3) → Clear 4 (tests (start-3 c))
-unfolding holdsAt
-clear-3 c = past-one (clear-2 (c .before .before)) (c .before .bad-beam .ensures) (c .if3 .left)
-
-abbrev start-4 : tie.Else4 → tie.Start
-start-4 c = start-3 (c .before .before)
-
-clear-4 : (c : tie.Else4) → Clear 5 (tests (start-4 c))
-unfolding holdsAt
-clear-4 c = past-one (clear-3 (c .before .before)) (c .before .bad-start .ensures) (c .if4 .left)
-
-abbrev start-5 : tie.Else5 → tie.Start
-start-5 c = start-4 (c .before .before)
-
-clear-5 : (c : tie.Else5) → Clear 6 (tests (start-5 c))
-unfolding holdsAt
-clear-5 c = past-one (clear-4 (c .before .before)) (c .before .bad-searched .ensures) (c .if5 .left)
-
-abbrev start-6 : tie.Else6 → tie.Start
-start-6 c = start-5 (c .before .before)
-
-clear-6 : (c : tie.Else6) → Clear 7 (tests (start-6 c))
-unfolding holdsAt
-clear-6 c = past-one (clear-5 (c .before .before)) (c .before .search-short .ensures) (c .if6 .left)
-
-abbrev start-7 : tie.Else7 → tie.Start
-start-7 c = start-6 (c .before)
-
-clear-7 : (c : tie.Else7) → Clear 8 (tests (start-7 c))
-unfolding holdsAt
-clear-7 c = past-one (clear-6 (c .before)) refl (ap not (eq-eqb _ _ (c .if7 .left)))
-
-entries-number-requires : tie.Need-entries-number-requires
-entries-number-requires c κs = search needs
+limits-number-requires : tie.Need-limits-number-requires
+limits-number-requires c κs = search needs
 
 returns : tie.Need-returns
-returns c = search-numbered (early _ _ (c .before .entries-number .ensures) (c .if1 .taken))
-
-bad-degree-requires : tie.Need-bad-degree-requires
-bad-degree-requires c κs = search needs
-
-returns-2 : tie.Need-returns-2
-unfolding holdsAt numberAt
-returns-2 c = search-numbered (found (clear-1 (c .before .before)) (c .before .bad-degree .ensures) (c .if2 .taken))
-
-bad-beam-requires : tie.Need-bad-beam-requires
-bad-beam-requires c κs = search needs
-
-returns-3 : tie.Need-returns-3
-unfolding holdsAt numberAt
-returns-3 c = search-numbered (found (clear-2 (c .before .before)) (c .before .bad-beam .ensures) (c .if3 .taken))
-
-bad-start-requires : tie.Need-bad-start-requires
-bad-start-requires c κs = search needs
-
-returns-4 : tie.Need-returns-4
-unfolding holdsAt numberAt
-returns-4 c = search-numbered (found (clear-3 (c .before .before)) (c .before .bad-start .ensures) (c .if4 .taken))
+returns c = search-numbered (early _ _ (c .before .limits-number .ensures) (c .if1 .taken))
 
 bad-searched-requires : tie.Need-bad-searched-requires
 unfolding holdsAt
-bad-searched-requires c κs = (vectors-good _ _ _ (clear-4 c .no 1) .1, degree-good _ (clear-4 c .no 2) .few)
+bad-searched-requires c κs = (vectors-good _ _ _ (clear-1 c .no 1) .1, degree-good _ (clear-1 c .no 2) .few)
 
-returns-5 : tie.Need-returns-5
+returns-2 : tie.Need-returns-2
 unfolding holdsAt numberAt
-returns-5 c = search-numbered (found (clear-4 (c .before .before)) (c .before .bad-searched .ensures) (c .if5 .taken))
+returns-2 c = search-numbered (found (clear-1 (c .before .before)) (c .before .bad-searched .ensures) (c .if2 .taken))
 
-search-short-requires : tie.Need-search-short-requires
+lengths-number-requires : tie.Need-lengths-number-requires
 unfolding holdsAt
-search-short-requires c κs = vectors-good _ _ _ (clear-5 c .no 1) .1
+lengths-number-requires c κs = vectors-good _ _ _ (clear-2 c .no 1) .1
 
-returns-6 : tie.Need-returns-6
-unfolding holdsAt numberAt
-returns-6 c = search-numbered (found (clear-5 (c .before .before)) (c .before .search-short .ensures) (c .if6 .taken))
-
-returns-7 : tie.Need-returns-7
-unfolding holdsAt numberAt
-returns-7 c = search-numbered (found (clear-6 (c .before)) refl (ap not (ne-eqb _ _ (c .if7 .taken))))
-
-returns-8 : tie.Need-returns-8
-returns-8 c = search-numbered (nothing (clear-7 c))
+returns-3 : tie.Need-returns-3
+returns-3 c = search-numbered (rest (clear-2 (c .before)) (c .lengths-number .ensures))
 
 pub search-number-spec : {M : Type 1} → statement M
 search-number-spec =
     tie.close
     (tie.spec
-    entries-number-requires
+    limits-number-requires
     returns
-    bad-degree-requires
-    returns-2
-    bad-beam-requires
-    returns-3
-    bad-start-requires
-    returns-4
     bad-searched-requires
-    returns-5
-    search-short-requires
-    returns-6
-    returns-7
-    returns-8)
+    returns-2
+    lengths-number-requires
+    returns-3)

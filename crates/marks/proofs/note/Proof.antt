@@ -1,26 +1,23 @@
--- `note`. Past the test of the mark an unmarked entry is left, so there is room behind the visited.
-use Prim.Native.Nat.{_<_}
-use native.Mathlib.Omega.{arith}
-use lib.ListN.{length-set}
+-- `note`: each of its stores is one of the contract's.
 use borrow.Author.Needs.{needs}
-use Rattle.marks.proofs.Noting.{unfull, note-old, note-new}
+use Rattle.marks.proofs.Noting.{noted}
 use Rattle.marks.proofs.note.Statement.{statement}
 use Rattle.marks.proofs.note.Tie as tie
 
-free : (c : tie.Else1) → c .before .before .args .v < c .before .before .args .n
-free c = let s = c .before .before in unfull _ _ _ _ (s .pre .0) _ (s .pre .1) (c .if1 .left)
+mark-of-requires : tie.Need-mark-of-requires
+mark-of-requires c κs = search needs
 
-mul-if1 : tie.Need-mul-if1
-mul-if1 c = search needs
+cast-i : tie.Need-cast-i
+cast-i c = search needs
 
-slice-read-if1 : tie.Need-slice-read-if1
-slice-read-if1 c = search needs
+mul-is-new : tie.Need-mul-is-new
+mul-is-new c = search needs
 
-returns : tie.Need-returns
-returns c = let s = c .before .before in note-old _ _ _ _ (s .pre .0) _ (s .pre .1) (c .if1 .taken)
+slice-read-is-new : tie.Need-slice-read-is-new
+slice-read-is-new c = search needs
 
-add-at : tie.Need-add-at
-add-at c = omega (arith, free c)
+is-new-requires : tie.Need-is-new-requires
+is-new-requires c κs = search needs
 
 mul-words : tie.Need-mul-words
 mul-words c = search needs
@@ -28,33 +25,38 @@ mul-words c = search needs
 slice-write-words : tie.Need-slice-write-words
 slice-write-words c = search needs
 
-mul-words-2 : tie.Need-mul-words-2
-mul-words-2 c = omega (arith, free c)
+mul-fresh : tie.Need-mul-fresh
+mul-fresh c = search needs
 
-slice-write-words-2 : tie.Need-slice-write-words-2
-slice-write-words-2 c = let h = free c in simp length-set (omega arith)
+slice-write-fresh : tie.Need-slice-write-fresh
+slice-write-fresh c = search needs
 
 add-result : tie.Need-add-result
-add-result c = omega (arith, free c)
+add-result c = search needs
 
 same-length : tie.Need-same-length
 same-length c = search needs
 
-returns-2 : tie.Need-returns-2
-returns-2 c = let s = c .before .before in note-new _ _ _ _ (s .pre .0) _ (s .pre .1) (c .if1 .left)
+same-length-2 : tie.Need-same-length-2
+same-length-2 c = search needs
+
+returns : tie.Need-returns
+returns c = noted _ _ _ (c .before .before .mark-of .ensures) (c .is-new .ensures .0)
 
 pub note-spec : {M : Type 1} → statement M
 note-spec =
     tie.close
     (tie.spec
-    mul-if1
-    slice-read-if1
-    returns
-    add-at
+    mark-of-requires
+    cast-i
+    mul-is-new
+    slice-read-is-new
+    is-new-requires
     mul-words
     slice-write-words
-    mul-words-2
-    slice-write-words-2
+    mul-fresh
+    slice-write-fresh
     add-result
     same-length
-    returns-2)
+    same-length-2
+    returns)

@@ -4,10 +4,10 @@ use Prim.Native.Nat.{_-_}
 use native.Mathlib.Omega.{arith}
 use borrow.Author.Needs.{needs}
 use lib.ListN.{length, drop}
-use Rattle.definition.specs.Metric.{between}
+use Rattle.definition.specs.Metric.{between, whole}
 use Rattle.definition.specs.Medoid.{scoreFrom, score}
 use Rattle.definition.specs.Floats.{nought}
-use Rattle.metric.specs.Laws.{vector-in}
+use Rattle.metric.specs.Laws.{exact-in-float, vector-in}
 use Rattle.medoid.specs.Turns.{score-start, score-turn, score-end}
 use Rattle.medoid.proofs.score.Statement.{statement}
 use Rattle.medoid.proofs.score.Tie as tie
@@ -36,6 +36,9 @@ between-requires c κs =
     let p = c .before .before .before .before .before .pre in
     (vector-in _ _ _ _ (p .1) (p .2), (vector-in _ _ _ _ (p .1) (p .3 _ (c .before .loop-test .taken)), p .0))
 
+int-to-float-total : tie.Need-int-to-float-total Inv-loop μ-loop
+int-to-float-total c = exact-in-float _ _ (c .before .between .ensures)
+
 add-j : tie.Need-add-j Inv-loop μ-loop
 add-j c = search needs
 
@@ -43,7 +46,10 @@ loop-less : tie.Need-loop-less Inv-loop μ-loop
 loop-less c = omega arith
 
 loop-again : tie.Need-loop-again Inv-loop μ-loop
-loop-again c = score-turn _ _ _ _ _ _ (c .before .before .loop-test .taken) (c .between .ensures .is) (c .before .before .before .loop .inv)
+unfolding whole
+loop-again c =
+    let t = c .before .before .before in
+    score-turn _ _ _ _ _ _ (t .loop-test .taken) (c .before .between .ensures .is) (t .before .loop .inv)
 
 returns : tie.Need-returns Inv-loop μ-loop
 returns c = score-end _ _ _ _ _ (c .loop-test .left) (c .before .loop .inv)
@@ -59,6 +65,7 @@ score-spec =
     shared-slice-read-p
     cast-p
     between-requires
+    int-to-float-total
     add-j
     loop-less
     loop-again

@@ -1,5 +1,4 @@
 -- `between`.
-use Prim.Native.Nat.{_-_}
 use native.Mathlib.Nat.{add-sub-cancel-left}
 use Rattle.definition.specs.Metric.{between, fromQuery, vector}
 use borrow.Author.Needs.{needs}

@@ -1,7 +1,9 @@
 -- `distance`.
 use mathlib.Core.Path.{sym, ap, _∙_}
-use Prim.Native.Nat.{_-_}
+use Prim.Native.Nat.{ℕ}
+use Rattle.definition.specs.Metric.{whole}
 use Rattle.definition.specs.Outcome.{answer}
+use Rattle.metric.specs.Laws.{exact-in-float}
 use Rattle.metric.specs.Cases.{distance-none, distance-long, distance-unequal, distance-done}
 use borrow.Author.Needs.{needs}
 use Rattle.metric.proofs.distance.Statement.{statement}
@@ -33,13 +35,18 @@ returns-3 c = c .refused3 .ensures ∙ sym (distance-unequal _ _ (c .before .bef
 summed-requires : tie.Need-summed-requires
 summed-requires c κs = search needs
 
+int-to-float-measured : tie.Need-int-to-float-measured
+int-to-float-measured c = exact-in-float _ _ (c .before .summed .ensures)
+
 measured-requires : tie.Need-measured-requires
 measured-requires c κs = search needs
 
 returns-4 : tie.Need-returns-4
+unfolding whole
 returns-4 c =
-    c .measured .ensures ∙ ap (λ v. answer 0 0 0 0 v) (c .before .summed .ensures .is)
-    ∙ sym (distance-done _ _ (c .before .before .before .before .if1 .left) (c .before .before .before .if2 .left) (c .before .before .if3 .left))
+    let s = c .before .before in
+    c .measured .ensures ∙ ap (λ (n : ℕ). answer 0 0 0 0 (whole n)) (s .summed .ensures .is)
+    ∙ sym (distance-done _ _ (s .before .before .before .if1 .left) (s .before .before .if2 .left) (s .before .if3 .left))
 
 pub distance-spec : {M : Type 1} → statement M
 distance-spec =
@@ -52,5 +59,6 @@ distance-spec =
     refused-requires-3
     returns-3
     summed-requires
+    int-to-float-measured
     measured-requires
     returns-4)

@@ -1,5 +1,4 @@
 -- `from_query`.
-use Prim.Native.Nat.{_-_}
 use native.Mathlib.Nat.{add-sub-cancel-left}
 use Rattle.definition.specs.Metric.{fromQuery, vector}
 use borrow.Author.Needs.{needs}

@@ -1,83 +1,77 @@
--- `metric::summed` meets its contract. The loop's invariant: what is summed is what the samples passed so far add. Assumes nothing.
-use mathlib.Core.Path.{_≡_, ap, subst}
+-- `metric::summed` meets its contract. The loop's invariant: the eight sums together are what the samples passed so far add. Assumes nothing.
+use mathlib.Core.Path.{_≡_, subst}
 use Prim.Native.Nat.{ℕ, _+_, _-_, _%_, _≤_}
 use native.Mathlib.Omega.{arith}
 use lib.ListN.{length}
+use Rattle.whole.specs.Whole.{farthest}
+use Rattle.metric.specs.Stretches.{Adds, Eight, total, eight-none, adds-join, adds-all, adds-small}
 use borrow.Author.Needs.{needs}
-use Rattle.definition.specs.Metric.{whole}
-use Rattle.whole.specs.Whole.{farthest, in-float}
-use Rattle.metric.specs.Stretches.{Adds, adds-none, adds-join, adds-all, adds-small}
 use Rattle.metric.proofs.summed.Statement.{statement}
 use Rattle.metric.proofs.summed.Tie as tie
 use Rattle.metric.proofs.summed.Reads as reads
 use Rattle.metric.proofs.summed.Lts as lts
-use Rattle.metric.proofs.stretch.Reads as stretch-reads
+use Rattle.metric.proofs.add_eight.Reads as add-eight-reads
+use Rattle.metric.proofs.rest.Reads as rest-reads
+use Rattle.metric.proofs.total.Reads as total-reads
 
 abbrev Inv-loop : tie.InvT-loop
-Inv-loop a b eights sum₀ i₀ sum i = (i ≤ eights) × ((eights - i) % 8 ≡ 0) × Adds a b 0 i sum
+Inv-loop a b eights sums₀ i₀ sums i = (i ≤ eights) × ((eights - i) % 8 ≡ 0) × Eight a b i sums
 
 abbrev μ-loop : tie.MeasureT-loop
-μ-loop a b eights sum₀ i₀ sum i = eights - i
+μ-loop a b eights sums₀ i₀ sums i = eights - i
 
 -- r is what the samples up to `to` add
 abbrev Sum : (c : tie.At-loop Inv-loop μ-loop) → ℕ → ℕ → Type 0
 Sum c to r = let s = c .before .before .before in Adds (s .args .a .now) (s .args .b .now) 0 to r
 
--- that is little enough, since the slices hold bytes
+-- what is summed is little enough, since the slices hold bytes
 small : (c : tie.At-loop Inv-loop μ-loop) (to r : ℕ) → Sum c to r → r ≤ farthest
 small c to r h =
     let known = c .before .before .shared-slice-known in
     let known2 = c .before .shared-slice-known2 in
     adds-small _ _ _ _ _ (λ k. known .given k .fits) (λ k. known2 .given k .fits) (c .before .before .before .pre .1) h
 
-turn : (c : tie.After-stretch Inv-loop μ-loop) → let l = c .before .before in Sum l (l .loop .i + 8) (l .loop .sum + c .stretch .result)
-turn c = let l = c .before .before in adds-join _ _ _ (l .loop .i) _ _ _ (l .loop .inv .2) (c .stretch .ensures)
-
-rest : (c : tie.After-stretch2 Inv-loop μ-loop) → let l = c .before .before in
-    Sum l (length (l .before .before .before .args .a .now)) (l .loop .sum + c .stretch2 .result)
-rest c =
-    let l = c .before .before in
-    let all = length (l .before .before .before .args .a .now) in
-    let at : l .loop .i ≡ all - all % 8 = omega (arith, l .loop .inv .0, c .before .loop-test .left) in
-    adds-join _ _ _ (all - all % 8) _ _ _ (subst (λ (i : ℕ). Sum l i (l .loop .sum)) at (l .loop .inv .2)) (c .stretch2 .ensures)
+-- the eight sums and the rest
+all : (c : tie.After-rest Inv-loop μ-loop) → let l = c .before .before .before .before in
+    Sum l (length (l .before .before .before .args .a .now)) (c .before .total .result + c .rest .result)
+all c =
+    let l = c .before .before .before .before in
+    let n = length (l .before .before .before .args .a .now) in
+    let at : l .loop .i ≡ n - n % 8 = omega (arith, l .loop .inv .0, c .before .before .before .loop-test .left) in
+    let eights : Sum l (n - n % 8) (c .before .total .result) = rw (← at, c .before .total .ensures) (l .loop .inv .2 .together) in
+    adds-join _ _ _ (n - n % 8) _ _ _ eights (c .rest .ensures)
 
 sub-eights : tie.Need-sub-eights Inv-loop μ-loop
 sub-eights c = search needs
 
 loop-holds : tie.Need-loop-holds Inv-loop μ-loop
-loop-holds c = (search needs, omega arith, adds-none _ _ _)
+loop-holds c = (search needs, omega arith, eight-none _ _)
 
-add-next : tie.Need-add-next Inv-loop μ-loop
-add-next c = search needs
+add-eight-requires : tie.Need-add-eight-requires Inv-loop μ-loop
+add-eight-requires c κs = search needs
 
-stretch-requires : tie.Need-stretch-requires Inv-loop μ-loop
-stretch-requires c κs = search needs
-
-add-sum : tie.Need-add-sum Inv-loop μ-loop
-add-sum c = omega (arith, small (c .before .before) _ _ (turn c))
+add-i : tie.Need-add-i Inv-loop μ-loop
+add-i c = search needs
 
 loop-less : tie.Need-loop-less Inv-loop μ-loop
 loop-less c = omega arith
 
 loop-again : tie.Need-loop-again Inv-loop μ-loop
-loop-again c = (search needs, omega arith, turn c)
+loop-again c = (search needs, omega arith, c .add-eight .ensures)
 
-stretch-requires-2 : tie.Need-stretch-requires-2 Inv-loop μ-loop
-stretch-requires-2 c κs = search needs
+total-requires : tie.Need-total-requires Inv-loop μ-loop
+total-requires c κs = let l = c .before .before in (l .loop .inv .2 .eight, small l (l .loop .i) _ (l .loop .inv .2 .together))
 
-add-sum-2 : tie.Need-add-sum-2 Inv-loop μ-loop
-add-sum-2 c = omega (arith, small (c .before .before) _ _ (rest c))
+rest-requires : tie.Need-rest-requires Inv-loop μ-loop
+rest-requires c κs = search needs
 
-int-to-float-result : tie.Need-int-to-float-result Inv-loop μ-loop
-int-to-float-result c = let r = c .before in in-float (r .before .before .loop .sum + r .stretch2 .result) (omega (arith, small (r .before .before) _ _ (rest r)))
+add-result : tie.Need-add-result Inv-loop μ-loop
+add-result c = omega (arith, small (c .before .before .before .before) _ _ (all c))
 
 returns : tie.Need-returns Inv-loop μ-loop
-unfolding whole
 returns c =
-    let r = c .before in
-    let l = r .before .before in
-    let all = adds-all _ _ _ (rest r) in
-    record { is = ap whole all; small = subst (λ (n : ℕ). n ≤ farthest) all (small l _ _ (rest r)) }
+    let is = adds-all _ _ _ (all c) in
+    record { is = is; small = subst (λ (n : ℕ). n ≤ farthest) is (small (c .before .before .before .before) _ _ (all c)) }
 
 pub summed-spec : {M : Type 1} → statement M
 summed-spec =
@@ -87,12 +81,11 @@ summed-spec =
     μ-loop
     sub-eights
     loop-holds
-    add-next
-    stretch-requires
-    add-sum
+    add-eight-requires
+    add-i
     loop-less
     loop-again
-    stretch-requires-2
-    add-sum-2
-    int-to-float-result
+    total-requires
+    rest-requires
+    add-result
     returns)

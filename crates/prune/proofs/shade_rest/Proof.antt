@@ -1,13 +1,14 @@
 -- `shade_rest` meets its contract. The factors shaded from place j on are, at every turn, what they are to become.
 use mathlib.Core.Path.{sym, subst}
 use mathlib.Core.Logic.{⊎-elim}
-use Prim.Native.Nat.{_-_, _<_}
+use Prim.Native.Nat.{ℕ, _-_, _≤_, _<_}
 use native.Mathlib.Omega.{arith}
 use lib.ListN.{length}
 use borrow.Author.Needs.{needs}
 use borrow.Author.Tests.{not-true, not-false}
 use Rattle.prune.proofs.Shading.{Shading, shading-start, shading-raise, shading-skip, shading-end}
 use Rattle.laws.specs.All.{all-at}
+use Rattle.whole.specs.Whole.{limit}
 use Rattle.metric.specs.Exact.{VectorIn}
 use Rattle.prune.proofs.shade_rest.Statement.{statement}
 use Rattle.prune.proofs.shade_rest.Tie as tie
@@ -51,7 +52,12 @@ shared-slice-read-raised : tie.Need-shared-slice-read-raised Inv-loop μ-loop
 shared-slice-read-raised c = search needs
 
 raised-requires : tie.Need-raised-requires Inv-loop μ-loop
-raised-requires c κs = search needs
+raised-requires c κs =
+    let apart = c .before .from-query .ensures in
+    let turn = c .before .before .before .before .before .before .before in
+    let s = turn .before .before .before .before .before .before in
+    let near = all-at (λ (d : ℕ). d ≤ limit) 0 (s .args .dists .now) (s .pre .0 .small) (turn .loop .j) (omega (arith, s .pre .0 .same)) in
+    (near, omega (arith, apart .is, apart .small))
 
 mul-factors : tie.Need-mul-factors Inv-loop μ-loop
 mul-factors c = search needs

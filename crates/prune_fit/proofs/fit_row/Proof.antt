@@ -19,31 +19,31 @@ index-of-requires : tie.Need-index-of-requires
 index-of-requires c κs = search needs
 
 put-row-requires : tie.Need-put-row-requires
-put-row-requires c κs = omega (arith, begins (c .before .before .before))
+put-row-requires c κs = omega (arith, begins (c .before .before))
 
 same-length : tie.Need-same-length
 same-length c = search needs
 
-same-length-2 : tie.Need-same-length-2
-same-length-2 c = search needs
-
 returns : tie.Need-returns
 returns c =
-    let placed = c .before .before .before .before .before .before in
+    let placed = c .before .before .before .before .before in
     fits-short _ _ _ _ _ _ (placed .index-of .ensures) (omega arith) (c .before .before .put-row .ensures)
 
 measure-requires : tie.Need-measure-requires
 measure-requires c κs =
-    let placed = c .before .before .before in
+    let placed = c .before .before in
     let f = called placed .pre .0 in
     (omega arith, (node-reaches f (placed .index-of .ensures), ids-reach f))
 
 prune-into-requires : tie.Need-prune-into-requires
 prune-into-requires c κs =
-    let measured = c .before .before .before .before .before .before in
-    let placed = measured .before .before .before .before in
+    let measured = c .before .before .before .before .before in
+    let placed = measured .before .before .before in
     let f = called placed .pre .0 in
-    (as-measurable f (omega arith) (measured .measure .ensures), (f .apart, omega (arith, begins placed)))
+    (as-measurable f _ (omega arith) (measured .measure .ensures), (f .apart, omega (arith, begins placed)))
+
+same-length-2 : tie.Need-same-length-2
+same-length-2 c = search needs
 
 same-length-3 : tie.Need-same-length-3
 same-length-3 c = search needs
@@ -51,17 +51,11 @@ same-length-3 c = search needs
 same-length-4 : tie.Need-same-length-4
 same-length-4 c = search needs
 
-same-length-5 : tie.Need-same-length-5
-same-length-5 c = search needs
-
-same-length-6 : tie.Need-same-length-6
-same-length-6 c = search needs
-
 returns-2 : tie.Need-returns-2
 returns-2 c =
-    let pruned = c .before .before .before .before .before .before .before .before in
-    let measured = pruned .before .before .before .before .before .before .before in
-    let placed = measured .before .before .before .before in
+    let pruned = c .before .before .before .before in
+    let measured = pruned .before .before .before .before .before .before in
+    let placed = measured .before .before .before in
     fits-long _ _ _ _ _ _ (placed .index-of .ensures) (omega arith) (measured .measure .ensures) (pruned .prune-into .ensures)
 
 pub fit-row-spec : {M : Type 1} → statement M
@@ -71,12 +65,10 @@ fit-row-spec =
     index-of-requires
     put-row-requires
     same-length
-    same-length-2
     returns
     measure-requires
     prune-into-requires
+    same-length-2
     same-length-3
     same-length-4
-    same-length-5
-    same-length-6
     returns-2)

@@ -4,11 +4,11 @@ use borrow.Author.Needs.{needs}
 use Rattle.search.proofs.wipe.Statement.{statement}
 use Rattle.search.proofs.wipe.Tie as tie
 
-work-end-requires : tie.Need-work-end-requires
-work-end-requires c κs = search needs
+search-end-requires : tie.Need-search-end-requires
+search-end-requires c κs = search needs
 
-work-dists-end-requires : tie.Need-work-dists-end-requires
-work-dists-end-requires c κs = search needs
+search-floats-end-requires : tie.Need-search-floats-end-requires
+search-floats-end-requires c κs = search needs
 
 clear-front-requires : tie.Need-clear-front-requires
 clear-front-requires c κs = search needs
@@ -23,14 +23,14 @@ returns : tie.Need-returns
 returns c =
     let k = c .before .before .before .before in
     let o = k .before .before .before in
-    wiped _ _ _ (rw (o .before .work-end .ensures, o .work-dists-end .ensures) at (k .clear-front .ensures))
+    wiped _ _ _ (rw (o .before .search-end .ensures, o .search-floats-end .ensures) at (k .clear-front .ensures))
 
 pub wipe-spec : {M : Type 1} → statement M
 wipe-spec =
     tie.close
     (tie.spec
-    work-end-requires
-    work-dists-end-requires
+    search-end-requires
+    search-floats-end-requires
     clear-front-requires
     same-length
     same-length-2

@@ -1,0 +1,8 @@
+-- Laws that belong to no one function.
+pub mod Reading
+pub mod Keeping
+pub mod Placing
+pub mod Admitting
+pub mod Meeting
+pub mod Closing
+pub mod Popping

@@ -1,0 +1,80 @@
+-- `metric::rest` meets its contract. The loop's invariant: what is summed is what the samples passed so far add. Assumes nothing.
+use mathlib.Core.Path.{_≡_, sym, subst}
+use Prim.Native.Nat.{ℕ, _+_, _-_, _≤_}
+use native.Mathlib.Omega.{arith}
+use lib.ListN.{length}
+use borrow.Author.Needs.{needs}
+use Rattle.metric.specs.Stretches.{Adds, adds-none, adds-one, adds-join, adds-small}
+use Rattle.metric.proofs.rest.Statement.{statement}
+use Rattle.metric.proofs.rest.Tie as tie
+use Rattle.metric.proofs.rest.Reads as reads
+use Rattle.metric.proofs.rest.Lts as lts
+use Rattle.metric.proofs.squared.Reads as squared-reads
+
+abbrev Inv-loop : tie.InvT-loop
+Inv-loop a b from sum₀ i₀ sum i = (i ≤ length a) × Adds a b from i sum
+
+abbrev μ-loop : tie.MeasureT-loop
+μ-loop a b from sum₀ i₀ sum i = length a - i
+
+-- after a turn's square is added
+turn : (c : tie.After-squared Inv-loop μ-loop) → let l = c .before .before .before .before in let s = l .before .before .before in
+    Adds (s .args .a .now) (s .args .b .now) (s .args .from) (l .loop .i + 1) (l .loop .sum + c .squared .result)
+turn c =
+    let l = c .before .before .before .before in
+    let s = l .before .before .before in
+    let i = l .loop .i in
+    let one = adds-one (s .args .a .now) (s .args .b .now) i (s .pre .alike) (omega arith) in
+    let more = subst (λ (r : ℕ). Adds (s .args .a .now) (s .args .b .now) i (i + 1) r) (sym (c .squared .ensures)) one in
+    adds-join _ _ (s .args .from) i (i + 1) (l .loop .sum) (c .squared .result) (l .loop .inv .1) more
+
+loop-holds : tie.Need-loop-holds Inv-loop μ-loop
+loop-holds c = (search needs, adds-none _ _ _)
+
+shared-slice-read-squared : tie.Need-shared-slice-read-squared Inv-loop μ-loop
+shared-slice-read-squared c = search needs
+
+shared-slice-read-squared-2 : tie.Need-shared-slice-read-squared-2 Inv-loop μ-loop
+shared-slice-read-squared-2 c = search needs
+
+squared-requires : tie.Need-squared-requires Inv-loop μ-loop
+squared-requires c κs = tt
+
+add-sum : tie.Need-add-sum Inv-loop μ-loop
+add-sum c =
+    let l = c .before .before .before .before in
+    let known = l .before .before .shared-slice-known in
+    let known2 = l .before .shared-slice-known2 in
+    omega (arith, adds-small _ _ _ _ _ (λ k. known .given k .fits) (λ k. known2 .given k .fits) (l .before .before .before .pre .few) (turn c))
+
+add-i : tie.Need-add-i Inv-loop μ-loop
+add-i c = search needs
+
+loop-less : tie.Need-loop-less Inv-loop μ-loop
+loop-less c = omega arith
+
+loop-again : tie.Need-loop-again Inv-loop μ-loop
+loop-again c = (search needs, turn c)
+
+returns : tie.Need-returns Inv-loop μ-loop
+returns c =
+    let l = c .before in
+    let s = l .before .before .before in
+    let at : l .loop .i ≡ length (s .args .a .now) = omega (arith, l .loop .inv .0, c .loop-test .left) in
+    subst (λ (i : ℕ). Adds (s .args .a .now) (s .args .b .now) (s .args .from) i (l .loop .sum)) at (l .loop .inv .1)
+
+pub rest-spec : {M : Type 1} → statement M
+rest-spec =
+    tie.close
+    (tie.spec
+    Inv-loop
+    μ-loop
+    loop-holds
+    shared-slice-read-squared
+    shared-slice-read-squared-2
+    squared-requires
+    add-sum
+    add-i
+    loop-less
+    loop-again
+    returns)
