@@ -23,9 +23,11 @@
  *   12  pivots: none, over 8, or one not below n
  *
  * A closed table has n x degree words, a wide table n x slack words. Build rule for a row: distinct ids below n, not its own, then only padding.
- * Search rule: every word is padding or an id below n. Batch, open, close and build read tables under the build rule; search under the search rule.
+ * Search rule: every word is padding or an id below n. Batch, open, close and build read tables under the build rule; search, records and fit under the
+ * search rule; lookup under none.
  *
- * Stack that a call needs, in bytes, as bin/stack measures it: batch and build 25,100, open and close 16,800, search and records 1,000, every other call 200.
+ * Stack that a call needs, in bytes, as bin/stack measures it: batch and build 27,600, open and close 17,600, lookup, search and records 3,900, every other call
+ * 200.
  * bin/stack fails where one needs more than 32 KiB, or a search 4 KiB. No call uses the heap.
  */
 #ifndef FJALGROUT_H
@@ -138,7 +140,7 @@ fjalgrout_answer fjalgrout_build(size_t n, size_t dim, const uint8_t *vectors, s
                                  size_t opening_count, uint32_t *wide, size_t wide_count, uint32_t *closed, size_t closed_count, uint32_t *words,
                                  size_t words_count, float *floats, size_t floats_count);
 
-/* Search: `count` answers by distance, then id, as ids and distances; the outputs beyond them are untouched. Beam 0 acts as 1, k = 0 gives no answers.
+/* Search: for a table that nobody has checked. `count` answers by distance, then id, as ids and distances; the outputs beyond them are untouched. Beam 0 acts as 1, k = 0 gives no answers.
  * There are at most most_answers of them, min(k, max(beam, 1)). Fewer than that are all that the rows lead to from the start. As many as that: an entry
  * that is missing can be reached only by passing some entry that is no nearer than the last answer. (It may be nearer itself: the search is greedy.)
  * Room: search_words, search_floats; each output most_answers. Numbers 1, 2, 3, 4, 6, 8, 10, 11. */
@@ -146,6 +148,18 @@ fjalgrout_answer fjalgrout_search(size_t n, size_t dim, const uint8_t *vectors, 
                                   uint32_t start, const uint32_t *table, size_t table_count, const uint8_t *query, size_t query_count,
                                   uint32_t *words, size_t words_count, float *floats, size_t floats_count, uint32_t *ids, size_t ids_count,
                                   float *dists, size_t dists_count);
+
+/* Lookup: what a tower calls. The same search, over the same table, outputs and room, without the pass over the table: 8 is given for its length alone,
+ * and a word that is no id below n reads as padding. So it is safe on every table, and where fit gives 0 it is search itself, refusals included. Where it
+ * does not, the answers are those of the table with padding in place of every such word. Numbers 1, 2, 3, 4, 6, 8, 10, 11. */
+fjalgrout_answer fjalgrout_lookup(size_t n, size_t dim, const uint8_t *vectors, size_t vectors_count, size_t degree, size_t beam, size_t k,
+                                  uint32_t start, const uint32_t *table, size_t table_count, const uint8_t *query, size_t query_count,
+                                  uint32_t *words, size_t words_count, float *floats, size_t floats_count, uint32_t *ids, size_t ids_count,
+                                  float *dists, size_t dists_count);
+
+/* Fit: the number that a search would give for its table, or 0. Asked once, when a table is loaded; lookup does the rest. Numbers 2 (the limits of n),
+ * 3, 8. */
+fjalgrout_answer fjalgrout_fit(size_t n, size_t degree, const uint32_t *table, size_t table_count);
 
 /* The same search, and its answers once more as a run of records, best first; records beyond the answers are untouched. The run, too, must have room
  * for most_answers records. Numbers 1, 2, 3, 4, 6, 8, 10, 11. */

@@ -55,8 +55,39 @@ pub fn medoid(r: &mut Rng, n: usize) {
     must(ours::same(got, Answer { id: want, ..DONE }), "medoid");
 }
 
-/// With a run of records beside the two outputs, or without one.
-fn search_on(r: &mut Rng, d: &Data, table: &[u32], as_records: bool) {
+/// The calls that search: alone, with a run of records beside the two outputs, or without a pass over the table.
+#[derive(Clone, Copy, PartialEq)]
+enum Call {
+    Search,
+    Records,
+    Lookup,
+}
+
+/// What a search wrote, or left.
+struct Searched {
+    answer: Answer,
+    words: Lent<u32>,
+    floats: Lent<f32>,
+    ids: Lent<u32>,
+    dists: Lent<f32>,
+    run: Lent<Candidate>,
+}
+
+/// One call on room and outputs of no meaning.
+fn call_on(r: &mut Rng, call: Call, s: ours::Search) -> Searched {
+    let most = s.k.min(s.beam.max(1));
+    let (mut words, mut floats) = (pattern(r, 2 * s.n + 256 + MORE), pattern(r, s.n + 256 + MORE));
+    let (mut ids, mut dists) = (pattern(r, most + MORE), pattern(r, most + MORE));
+    let mut run = pattern(r, most + MORE);
+    let answer = reads(&[s.vectors, s.query], &[s.table], || match call {
+        Call::Search => ours::search(s, words.lend(), floats.lend(), ids.lend(), dists.lend()),
+        Call::Records => ours::records(s, words.lend(), floats.lend(), ids.lend(), dists.lend(), run.lend()),
+        Call::Lookup => ours::lookup(s, words.lend(), floats.lend(), ids.lend(), dists.lend()),
+    });
+    Searched { answer, words, floats, ids, dists, run }
+}
+
+fn search_on(r: &mut Rng, d: &Data, table: &[u32], call: Call) {
     let (n, dim, degree, start) = (d.n, d.dim, d.params.degree, d.start);
     let beam = match r.below(5) {
         0 => 0,
@@ -64,7 +95,9 @@ fn search_on(r: &mut Rng, d: &Data, table: &[u32], as_records: bool) {
         _ => 1 + r.below(40),
     };
     let query = query(r, d);
-    let want = probe::search(probe::Search { dim, vectors: &d.vectors, degree, table, query: &query, start, beam });
+    // 000 would follow a word that is no id, so it has the table as lookup reads it: the table itself, where every word is one or padding
+    let read = cleaned(n, table);
+    let want = probe::search(probe::Search { dim, vectors: &d.vectors, degree, table: &read, query: &query, start, beam });
     // k = beam is 000's own answer; another k cuts that list, lower ids first
     let k = match r.below(4) {
         0 => r.below(beam + 3),
@@ -77,39 +110,46 @@ fn search_on(r: &mut Rng, d: &Data, table: &[u32], as_records: bool) {
     note_if(k >= beam.max(1), "k as the beam or above");
     note_if(want.len() == beam, "as many answers as the beam");
     note_if(want.windows(2).any(|w| w[0].1 == w[1].1), "equal distances among answers");
-    let most = k.min(beam.max(1));
-    let (mut words, mut floats) = (pattern(r, 2 * n + 256 + MORE), pattern(r, n + 256 + MORE));
-    let (mut ids, mut dists) = (pattern(r, most + MORE), pattern(r, most + MORE));
-    let mut run = pattern(r, most + MORE);
-    let call = ours::Search { n, dim, vectors: &d.vectors, degree, beam, k, start, table, query: &query };
-    let got = reads(&[&d.vectors, &query], &[table], || match as_records {
-        true => ours::records(call, words.lend(), floats.lend(), ids.lend(), dists.lend(), run.lend()),
-        false => ours::search(call, words.lend(), floats.lend(), ids.lend(), dists.lend()),
-    });
+    let given = ours::Search { n, dim, vectors: &d.vectors, degree, beam, k, start, table, query: &query };
     let (want_ids, want_dists): (Vec<u32>, Vec<f32>) = want.into_iter().take(k).unzip();
     let records = want_ids.iter().zip(&want_dists).map(|(&id, &distance)| Candidate { id, distance });
-    let want_run: Vec<Candidate> = records.filter(|_| as_records).collect();
-    must(ours::same(got, Answer { count: want_ids.len(), ..DONE }), "search: answer");
-    must(ids.begins(&want_ids) && dists.begins(&want_dists), "search: answers, and nothing beyond them");
-    must(run.begins(&want_run), "search: records, and nothing beyond them");
-    must(words.cleared(2 * n + 256) && floats.cleared(n + 256), "search: room");
+    let want_run: Vec<Candidate> = records.filter(|_| call == Call::Records).collect();
+    let got = call_on(r, call, given);
+    must(ours::same(got.answer, Answer { count: want_ids.len(), ..DONE }), "search: answer");
+    must(got.ids.begins(&want_ids) && got.dists.begins(&want_dists), "search: answers, and nothing beyond them");
+    must(got.run.begins(&want_run), "search: records, and nothing beyond them");
+    must(got.words.cleared(2 * n + 256) && got.floats.cleared(n + 256), "search: room");
 }
 
-fn any_search(r: &mut Rng, n: usize, as_records: bool) {
+fn any_search(r: &mut Rng, n: usize, call: Call) {
     let d = data(r, n);
     let table = searched(r, n, d.params.degree);
     note_limits(&d);
-    search_on(r, &d, &table, as_records);
+    search_on(r, &d, &table, call);
 }
 
 /// A search of any words that the search rule admits.
 pub fn search(r: &mut Rng, n: usize) {
-    any_search(r, n, false);
+    any_search(r, n, Call::Search);
 }
 
 /// The same, with the run of records.
 pub fn records(r: &mut Rng, n: usize) {
-    any_search(r, n, true);
+    any_search(r, n, Call::Records);
+}
+
+/// A lookup in any words at all, or in words that the search rule admits: then a search has the same answers, since both have 000's.
+pub fn lookup(r: &mut Rng, n: usize) {
+    let d = data(r, n);
+    let degree = d.params.degree;
+    let table = if r.below(4) == 0 { searched(r, n, degree) } else { strayed(r, n, degree) };
+    note_limits(&d);
+    let lawful = is_searchable(n, &table);
+    note(if lawful { "a lawful table" } else { "stray words" });
+    search_on(&mut Rng(r.0), &d, &table, Call::Lookup);
+    if lawful {
+        search_on(r, &d, &table, Call::Search);
+    }
 }
 
 pub fn batch(r: &mut Rng, n: usize) {
@@ -194,5 +234,7 @@ pub fn build(r: &mut Rng, n: usize) {
     must(wide.begins(&flat(&want_wide, s)), "build: wide table");
     must(closed.begins(&flat(&want_closed, degree)), "build: closed table");
     must(room.cleared(n), "build: room");
-    search_on(r, &d, closed.lend(), false);
+    let table = closed.lend().to_vec();
+    search_on(r, &d, &table, Call::Search);
+    search_on(r, &d, &table, Call::Lookup);
 }

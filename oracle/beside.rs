@@ -30,7 +30,7 @@ struct Kind {
     large: bool,
 }
 
-const KINDS: [Kind; 16] = [
+const KINDS: [Kind; 19] = [
     Kind { name: "distance", run: accepted::distance, large: false },
     Kind { name: "medoid", run: accepted::medoid, large: true },
     Kind { name: "search", run: accepted::search, large: true },
@@ -47,15 +47,18 @@ const KINDS: [Kind; 16] = [
     Kind { name: "search refused", run: refused::search, large: false },
     Kind { name: "records", run: accepted::records, large: true },
     Kind { name: "records refused", run: refused::records, large: false },
+    Kind { name: "lookup", run: accepted::lookup, large: true },
+    Kind { name: "lookup refused", run: refused::lookup, large: false },
+    Kind { name: "fit", run: refused::fit, large: true },
 ];
 
 /// A case's number holds all that decides it: the run's seed, the kind, whether it is large, and its place.
-const KIND_BIT: u32 = 28;
-const LARGE: u64 = 1 << 27;
+const KIND_BIT: u32 = 27;
+const LARGE: u64 = 1 << 26;
 
 fn run_case(number: u64) {
     CASE.set(number);
-    let kind = &KINDS[(number >> KIND_BIT) as usize % 16];
+    let kind = &KINDS[(number >> KIND_BIT) as usize % 32];
     let mut r = Rng(number);
     let n = cases::size(&mut r, number & LARGE != 0);
     (kind.run)(&mut r, n);
@@ -91,7 +94,7 @@ fn main() {
         }
         [seed, count, ref kind @ ..] if kind.len() < 2 => {
             let (seed, count) = (number(seed), number(count));
-            assert!(seed < 1 << 32 && count < LARGE, "SEED is below 2^32, COUNT below 2^27");
+            assert!(seed < 1 << 32 && count < LARGE, "SEED is below 2^32, COUNT below 2^26");
             let asked = |at: &usize| kind.iter().all(|&name| name == KINDS[*at].name);
             let ran = (0..KINDS.len()).filter(asked).map(|at| run_kind(seed, at, count)).count();
             assert!(ran > 0, "no such kind");

@@ -223,6 +223,29 @@ pub fn searched(r: &mut Rng, n: usize, degree: usize) -> Vec<u32> {
     (0..n * degree).map(word).collect()
 }
 
+/// Any words at all: a third of them no ids, from n itself up to the last before padding.
+pub fn strayed(r: &mut Rng, n: usize, degree: usize) -> Vec<u32> {
+    let lawful = searched(r, n, degree);
+    let stray = |word| match r.below(12) {
+        0 => n as u32,
+        1 => (n + r.below(2 * n)) as u32,
+        2 => PAD - 1,
+        3 => (r.next() as u32).max(n as u32),
+        _ => word,
+    };
+    lawful.into_iter().map(stray).collect()
+}
+
+/// A table as lookup reads it.
+pub fn cleaned(n: usize, table: &[u32]) -> Vec<u32> {
+    table.iter().map(|&word| if (word as usize) < n { word } else { PAD }).collect()
+}
+
+/// Whether every word is padding or an id below n.
+pub fn is_searchable(n: usize, table: &[u32]) -> bool {
+    table.iter().all(|&word| word == PAD || (word as usize) < n)
+}
+
 /// Groups of seeds for so many nodes.
 pub fn seeds(r: &mut Rng, d: &Data, count: usize) -> Vec<u32> {
     (0..count).flat_map(|_| r.distinct(d.params.extra, d.n, &[d.start])).collect()

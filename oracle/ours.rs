@@ -165,6 +165,37 @@ pub fn search(s: Search, words: &mut [u32], floats: &mut [f32], ids: &mut [u32],
     }
 }
 
+pub fn lookup(s: Search, words: &mut [u32], floats: &mut [f32], ids: &mut [u32], dists: &mut [f32]) -> Answer {
+    unsafe {
+        c::fjalgrout_lookup(
+            s.n,
+            s.dim,
+            s.vectors.as_ptr(),
+            s.vectors.len(),
+            s.degree,
+            s.beam,
+            s.k,
+            s.start,
+            s.table.as_ptr(),
+            s.table.len(),
+            s.query.as_ptr(),
+            s.query.len(),
+            words.as_mut_ptr(),
+            words.len(),
+            floats.as_mut_ptr(),
+            floats.len(),
+            ids.as_mut_ptr(),
+            ids.len(),
+            dists.as_mut_ptr(),
+            dists.len(),
+        )
+    }
+}
+
+pub fn fit(n: usize, degree: usize, table: &[u32]) -> Answer {
+    unsafe { c::fjalgrout_fit(n, degree, table.as_ptr(), table.len()) }
+}
+
 pub fn records(s: Search, words: &mut [u32], floats: &mut [f32], ids: &mut [u32], dists: &mut [f32], run: &mut [Candidate]) -> Answer {
     unsafe {
         c::fjalgrout_records(

@@ -309,17 +309,31 @@ pub fn build(r: &mut Rng, n: usize) {
     low.check(got, wide.kept() && closed.kept() && words.kept() && floats.kept());
 }
 
+#[derive(Clone, Copy, PartialEq)]
+enum Call {
+    Search,
+    Records,
+    Lookup,
+}
+
 pub fn search(r: &mut Rng, n: usize) {
-    any_search(r, n, false);
+    any_search(r, n, Call::Search);
 }
 
 pub fn records(r: &mut Rng, n: usize) {
-    any_search(r, n, true);
+    any_search(r, n, Call::Records);
 }
 
-fn any_search(r: &mut Rng, n: usize, as_records: bool) {
+/// 8 concerns the table's length alone; and where every word is lawful, a search is refused by the same number.
+pub fn lookup(r: &mut Rng, n: usize) {
+    any_search(r, n, Call::Lookup);
+}
+
+fn any_search(r: &mut Rng, n: usize, call: Call) {
     let d = data(r, n);
-    let mut table = searched(r, n, d.params.degree);
+    let degree = d.params.degree;
+    let stray = call == Call::Lookup && r.below(2) == 0;
+    let mut table = if stray { strayed(r, n, degree) } else { searched(r, n, degree) };
     let mut query = query(r, &d);
     let mut s = shared(&d);
     s.params.beam = r.below(30);
@@ -332,13 +346,13 @@ fn any_search(r: &mut Rng, n: usize, as_records: bool) {
             8 => {
                 let i = r.below(table.len());
                 match r.below(2) {
-                    0 if !table.is_empty() => table[i] = r.pick(&[n as u32, u32::MAX - 1]),
-                    _ => table.resize(other(r, n * d.params.degree), PAD),
+                    0 if !table.is_empty() && call != Call::Lookup => table[i] = r.pick(&[n as u32, u32::MAX - 1]),
+                    _ => table.resize(other(r, n * degree), PAD),
                 }
                 low.fault(8);
             }
             10 => {
-                match r.below(4 + usize::from(as_records)) {
+                match r.below(4 + usize::from(call == Call::Records)) {
                     0 => words_len = 2 * n + 255,
                     1 => floats_len = n + 255,
                     2 => ids_len = most - 1,
@@ -354,9 +368,7 @@ fn any_search(r: &mut Rng, n: usize, as_records: bool) {
             number => s.fault(r, number, &mut low),
         }
     }
-    let (mut words, mut floats) = (pattern(r, words_len), pattern(r, floats_len));
-    let (mut ids, mut dists) = (pattern(r, ids_len), pattern(r, dists_len));
-    let call = ours::Search {
+    let given = ours::Search {
         n: s.n,
         dim: s.dim,
         vectors: &s.vectors,
@@ -367,10 +379,50 @@ fn any_search(r: &mut Rng, n: usize, as_records: bool) {
         table: &table,
         query: &query,
     };
-    let mut run = pattern(r, run_len);
-    let got = reads(&[&s.vectors, &query], &[&table], || match as_records {
-        true => ours::records(call, words.lend(), floats.lend(), ids.lend(), dists.lend(), run.lend()),
-        false => ours::search(call, words.lend(), floats.lend(), ids.lend(), dists.lend()),
-    });
-    low.check(got, words.kept() && floats.kept() && ids.kept() && dists.kept() && run.kept());
+    let mut refuse = |call: Call| {
+        let (mut words, mut floats) = (pattern(r, words_len), pattern(r, floats_len));
+        let (mut ids, mut dists) = (pattern(r, ids_len), pattern(r, dists_len));
+        let mut run = pattern(r, run_len);
+        let got = reads(&[&s.vectors, &query], &[&table], || match call {
+            Call::Search => ours::search(given, words.lend(), floats.lend(), ids.lend(), dists.lend()),
+            Call::Records => ours::records(given, words.lend(), floats.lend(), ids.lend(), dists.lend(), run.lend()),
+            Call::Lookup => ours::lookup(given, words.lend(), floats.lend(), ids.lend(), dists.lend()),
+        });
+        low.check(got, words.kept() && floats.kept() && ids.kept() && dists.kept() && run.kept());
+    };
+    refuse(call);
+    if call == Call::Lookup && is_searchable(s.n, &table) {
+        note("a lawful table");
+        refuse(Call::Search);
+    }
+}
+
+/// The number of a table: each of 2, 3 and 8 by one fault or two, and 0 by none.
+pub fn fit(r: &mut Rng, n: usize) {
+    let degree = 1 + r.below(64);
+    let mut table = searched(r, n, degree);
+    let (mut count, mut given) = (n, degree);
+    let mut low = Lowest::default();
+    for _ in 0..r.below(3) {
+        match r.below(4) {
+            0 => {
+                count = r.pick(&[0, 65_537, usize::MAX]);
+                low.fault(2);
+            }
+            1 => {
+                given = r.pick(&[0, 65, usize::MAX]);
+                low.fault(3);
+            }
+            2 if !table.is_empty() => {
+                let i = r.below(table.len());
+                table[i] = r.pick(&[n as u32, u32::MAX - 1]);
+                low.fault(8);
+            }
+            _ => {
+                table.resize(other(r, n * degree), PAD);
+                low.fault(8);
+            }
+        }
+    }
+    low.check(reads(&[], &[&table], || ours::fit(count, given, &table)), true);
 }

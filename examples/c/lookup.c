@@ -1,4 +1,4 @@
-/* A whole lookup in C: draws pivots, order, seeds and opening rows from one generator, builds the table, searches it, and prints the answers. */
+/* A whole lookup in C: draws pivots, order, seeds and opening rows from one generator, builds the table, checks it, looks a crossing up in it, and prints the answers. */
 #include <fjalgrout.h>
 #include <stdio.h>
 #include <stdlib.h>
@@ -63,15 +63,16 @@ int main(void) {
     need("build", fjalgrout_build(N, DIM, vectors, sizeof vectors, params, start, order, N, seeds, N * params.extra, opening, closed_words, wide,
                                   wide_words, closed, closed_words, words, words_count, floats, floats_count));
 
-    /* The room of a build is more than that of a search. */
+    /* A table is checked once, when it is loaded; the room of a build is more than that of a lookup. */
+    need("fit", fjalgrout_fit(N, params.degree, closed, closed_words));
     uint32_t ids[K];
     float dists[K];
     uint8_t query[DIM];
     for (int j = 0; j < DIM; j++) query[j] = vectors[3 * DIM + j];
     query[0] ^= 1;
-    fjalgrout_answer found = fjalgrout_search(N, DIM, vectors, sizeof vectors, params.degree, BEAM, K, start, closed, closed_words, query, DIM, words,
+    fjalgrout_answer found = fjalgrout_lookup(N, DIM, vectors, sizeof vectors, params.degree, BEAM, K, start, closed, closed_words, query, DIM, words,
                                               words_count, floats, floats_count, ids, K, dists, K);
-    need("search", found);
+    need("lookup", found);
     printf("start %u, %zu answers\n", start, found.count);
     for (size_t i = 0; i < found.count; i++) printf("id %u label %u distance %.0f\n", ids[i], ids[i] % LABELS, dists[i]);
 

@@ -75,9 +75,14 @@ static fjalgrout_answer search(struct searching *s) {
                             s->query_count, s->words, s->words_count, s->floats, s->floats_count, s->ids, s->ids_count, s->dists, s->dists_count);
 }
 
-static void answers_at(int at, struct searching s, size_t count, const uint32_t *ids, const float *dists) {
+static fjalgrout_answer lookup(struct searching *s) {
+    return fjalgrout_lookup(s->n, s->dim, s->vectors, s->vectors_count, s->degree, s->beam, s->k, s->start, s->table, s->table_count, &s->query,
+                            s->query_count, s->words, s->words_count, s->floats, s->floats_count, s->ids, s->ids_count, s->dists, s->dists_count);
+}
+
+static void answers_by(int at, fjalgrout_answer (*call)(struct searching *), struct searching s, size_t count, const uint32_t *ids, const float *dists) {
     struct searching before = s;
-    fjalgrout_answer a = search(&s);
+    fjalgrout_answer a = call(&s);
     check_at(at, "done", a.number == 0 && a.id == 0 && a.draw == 0 && a.distance == 0);
     check_at(at, "count", a.count == count);
     check_at(at, "ids", memcmp(s.ids, ids, count * 4) == 0);
@@ -90,6 +95,13 @@ static void answers_at(int at, struct searching s, size_t count, const uint32_t 
     check_at(at, "room left zero", zero);
     check_at(at, "words beyond the room", memcmp(s.words + s.words_count, before.words + s.words_count, 16) == 0);
     check_at(at, "floats beyond the room", memcmp(s.floats + s.floats_count, before.floats + s.floats_count, 16) == 0);
+    check_at(at, "the table", memcmp(s.table, before.table, sizeof s.table) == 0);
+}
+
+/* By the search, and by the lookup. */
+static void answers_at(int at, struct searching s, size_t count, const uint32_t *ids, const float *dists) {
+    answers_by(at, search, s, count, ids, dists);
+    answers_by(at, lookup, s, count, ids, dists);
 }
 #define ANSWERS(s, count, ids, dists) answers_at(__LINE__, s, count, ids, dists)
 
@@ -99,12 +111,15 @@ static fjalgrout_answer run_records(struct searching *s, fjalgrout_candidate *ru
                              run, run_count);
 }
 
-/* By the search, and by the same with a run of records. */
+/* By the search, by the lookup, unless it is a word of the table that is refused, and by the search with a run of records. */
 static void refuses_at(int at, struct searching s, uint32_t number) {
     struct searching before = s;
     fjalgrout_candidate run[4], kept[4];
     fill_floats(run, sizeof run), memcpy(kept, run, sizeof run);
+    int stray = 0;
+    for (size_t i = 0; i < 8; i++) stray = stray || (s.table[i] != PAD && s.table[i] >= 4);
     check_at(at, "refused by its number", only(search(&s), number));
+    check_at(at, "lookup refused by that number", stray || only(lookup(&s), number));
     check_at(at, "nothing changed", memcmp(&s, &before, sizeof s) == 0);
     check_at(at, "records refused by that number", only(run_records(&s, run, 4), number));
     check_at(at, "nothing changed beside records", memcmp(&s, &before, sizeof s) == 0 && memcmp(run, kept, sizeof run) == 0);
@@ -158,6 +173,40 @@ static void test_search_refusals(void) {
     REFUSES(4, (s.beam = 257, s.query_count = 0));
     REFUSES(8, (s.table_count = 7, s.words_count = 0));
     REFUSES(10, (s.words_count = 0, s.query_count = 0));
+}
+
+/* ---- lookup and fit: a word that is no id below n */
+
+static void test_lookup(void) {
+    /* entry 1 no longer leads to 2, so 3 is out of reach */
+    struct searching s = the_line(38, 8, 8);
+    s.table[3] = 4;
+    answers_by(__LINE__, lookup, s, 2, (uint32_t[]){1, 0}, (float[]){324, 784});
+    /* a row goes on behind such a word */
+    s = the_line(38, 8, 8), s.table[2] = PAD - 1;
+    answers_by(__LINE__, lookup, s, 4, (uint32_t[]){3, 2, 1, 0}, (float[]){4, 64, 324, 784});
+    s = the_line(38, 8, 8);
+    for (size_t i = 0; i < 8; i++) s.table[i] = 4 + (uint32_t)i;
+    answers_by(__LINE__, lookup, s, 1, (uint32_t[]){0}, (float[]){784});
+}
+
+static void test_fit(void) {
+    uint32_t table[8];
+    memcpy(table, line_rows, sizeof table);
+    CHECK(only(fjalgrout_fit(4, 2, table, 8), 0));
+    CHECK(only(fjalgrout_fit(0, 2, table, 8), 2));
+    CHECK(only(fjalgrout_fit(65537, 2, table, 8), 2));
+    CHECK(only(fjalgrout_fit(4, 0, table, 8), 3));
+    CHECK(only(fjalgrout_fit(4, 65, table, 8), 3));
+    CHECK(only(fjalgrout_fit(4, 2, table, 7), 8));
+    CHECK(only(fjalgrout_fit(0, 65, table, 7), 2));
+    CHECK(only(fjalgrout_fit((size_t)1 << 63, 2, table, 0), 2));
+    table[5] = 4;
+    CHECK(only(fjalgrout_fit(4, 2, table, 8), 8));
+    table[5] = PAD - 1;
+    CHECK(only(fjalgrout_fit(4, 2, table, 8), 8));
+    table[5] = PAD, table[6] = 3;
+    CHECK(only(fjalgrout_fit(4, 2, table, 8), 0));
 }
 
 /* ---- the run of records: as the search, and the run beside it */
@@ -440,6 +489,8 @@ int main(void) {
     test_distance();
     test_search();
     test_search_refusals();
+    test_lookup();
+    test_fit();
     test_records();
     test_medoid();
     test_draws();

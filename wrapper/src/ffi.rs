@@ -130,6 +130,31 @@ extern "C" {
         dists_count: usize,
     ) -> Answer;
 
+    pub fn fjalgrout_lookup(
+        n: usize,
+        dim: usize,
+        vectors: *const u8,
+        vectors_count: usize,
+        degree: usize,
+        beam: usize,
+        k: usize,
+        start: u32,
+        table: *const u32,
+        table_count: usize,
+        query: *const u8,
+        query_count: usize,
+        words: *mut u32,
+        words_count: usize,
+        floats: *mut f32,
+        floats_count: usize,
+        ids: *mut u32,
+        ids_count: usize,
+        dists: *mut f32,
+        dists_count: usize,
+    ) -> Answer;
+
+    pub fn fjalgrout_fit(n: usize, degree: usize, table: *const u32, table_count: usize) -> Answer;
+
     pub fn fjalgrout_records(
         n: usize,
         dim: usize,

@@ -209,7 +209,7 @@ pub fn build(
     done(answer).map(drop)
 }
 
-/// Search: how many answers there are, by distance, then id, at the front of `ids` and `dists`; what lies beyond them is untouched.
+/// Search: for a table that nobody has checked. How many answers there are, by distance, then id, at the front of `ids` and `dists`; what lies beyond them is untouched.
 ///
 /// There are at most [`most_answers`] of them, min(k, max(beam, 1)). Fewer than that are all that the rows lead to from the start. As many as that: an
 /// entry that is missing can be reached only by passing some entry that is no nearer than the last answer. (It may be nearer itself: the search is greedy.)
@@ -244,6 +244,48 @@ pub fn search(vectors: Vectors, table: Table, wanted: Wanted, query: &[u8], scra
         )
     };
     Ok(done(answer)?.count)
+}
+
+/// Lookup: what a tower calls. The same search without the pass over the table: 8 is given for its length alone, and a word that is no id below n reads as
+/// padding. So it is safe on every table, and where [`fit`] accepts the table it is [`search`] itself, refusals included.
+///
+/// Scratch: [`search_room`]; each output [`most_answers`]. Numbers 1, 2, 3, 4, 6, 8, 10, 11.
+pub fn lookup(vectors: Vectors, table: Table, wanted: Wanted, query: &[u8], scratch: Scratch, ids: &mut [u32], dists: &mut [f32]) -> Result<usize, Refusal> {
+    let Vectors { n, dim, bytes } = vectors;
+    let Scratch { words, floats } = scratch;
+    // SAFETY: address and length are those of slices, and the borrows keep those that are written apart.
+    let answer = unsafe {
+        ffi::fjalgrout_lookup(
+            n,
+            dim,
+            bytes.as_ptr(),
+            bytes.len(),
+            table.degree,
+            wanted.beam,
+            wanted.k,
+            table.start,
+            table.rows.as_ptr(),
+            table.rows.len(),
+            query.as_ptr(),
+            query.len(),
+            words.as_mut_ptr(),
+            words.len(),
+            floats.as_mut_ptr(),
+            floats.len(),
+            ids.as_mut_ptr(),
+            ids.len(),
+            dists.as_mut_ptr(),
+            dists.len(),
+        )
+    };
+    Ok(done(answer)?.count)
+}
+
+/// Fit: whether a search would take the table: asked once, when a table is loaded; [`lookup`] does the rest. Numbers 2 (the limits of n), 3, 8.
+pub fn fit(n: usize, degree: usize, rows: &[u32]) -> Result<(), Refusal> {
+    // SAFETY: address and length are those of a slice.
+    let answer = unsafe { ffi::fjalgrout_fit(n, degree, rows.as_ptr(), rows.len()) };
+    done(answer).map(drop)
 }
 
 /// The same search, and its answers once more as a run of records, best first; records beyond the answers are untouched. The run, too, must have room

@@ -30,6 +30,20 @@ fn bent(beam: usize, k: usize) -> Search {
     }
 }
 
+/// A word that is no id below n reads as padding: the row goes on behind it, and where it stood for the way on, the rest is out of reach.
+#[test]
+fn a_stray_word_in_a_lookup() {
+    let mut call = line_search(38, 8, 8);
+    let all = vec![(3, 4.0), (2, 64.0), (1, 324.0), (0, 784.0)];
+    assert_eq!(call.looked_up(), Ok(all.clone()));
+    call.rows[2] = 7;
+    assert_eq!(call.looked_up(), Ok(all));
+    call.rows[3] = 4;
+    assert_eq!(call.looked_up(), Ok(vec![(1, 324.0), (0, 784.0)]));
+    call.rows.fill(PADDING - 1);
+    assert_eq!(call.looked_up(), Ok(vec![(0, 784.0)]));
+}
+
 /// Entry 3 at 0 is missed: the walk stops before it.
 #[test]
 fn an_entry_that_is_missed() {

@@ -2,7 +2,7 @@
 
 mod lent;
 
-use fjalgrout::{build_room, distance, medoid, most_answers, open, search_room, slack, Generator, Params, Refusal, Room, PADDING};
+use fjalgrout::{build_room, distance, fit, medoid, most_answers, open, search_room, slack, Generator, Params, Refusal, Room, PADDING};
 use lent::{line_build, line_search, vectors, Build, Call, Search, LINE, LINE_ROWS, LINE_WIDE};
 
 #[test]
@@ -56,6 +56,36 @@ fn search_refuses() {
 fn search_accepts() {
     assert_eq!(searched(|s| s.rows[0..2].copy_from_slice(&[PADDING, 1])), 0);
     assert_eq!(searched(|s| s.rows[0..2].copy_from_slice(&[0, 0])), 0);
+}
+
+/// The same of a lookup: 8 concerns the table's length alone.
+#[test]
+fn lookup_refuses() {
+    let looked_up = |change: fn(&mut Search)| {
+        let mut call = line_search(38, 2, 2);
+        change(&mut call);
+        call.looked_up().map_or_else(|refusal| refusal.0, |_| 0)
+    };
+    assert_eq!(looked_up(|s| s.rows.truncate(7)), 8);
+    assert_eq!(looked_up(|s| s.rows.push(0)), 8);
+    assert_eq!(looked_up(|s| s.rows[5] = 4), 0);
+    assert_eq!(looked_up(|s| s.rows.fill(PADDING - 1)), 0);
+    assert_eq!(looked_up(|s| (s.rows, s.start) = (vec![9; 7], 4)), 6);
+    assert_eq!(looked_up(|s| (s.rows, s.short) = (vec![9; 7], [1; 4])), 8);
+    assert_eq!(looked_up(|s| (s.rows, s.query) = (vec![9; 8], vec![])), 11);
+}
+
+#[test]
+fn fit_refuses() {
+    assert_eq!(fit(4, 2, &LINE_ROWS), Ok(()));
+    assert_eq!(fit(0, 2, &LINE_ROWS), Err(Refusal(2)));
+    assert_eq!(fit(65_537, 0, &[]), Err(Refusal(2)));
+    assert_eq!(fit(usize::MAX, 64, &[]), Err(Refusal(2)));
+    assert_eq!(fit(4, 0, &[]), Err(Refusal(3)));
+    assert_eq!(fit(4, 65, &LINE_ROWS), Err(Refusal(3)));
+    assert_eq!(fit(4, 2, &LINE_ROWS[..7]), Err(Refusal(8)));
+    assert_eq!(fit(4, 2, &[1, PADDING, 0, 2, 1, 4, 2, PADDING]), Err(Refusal(8)));
+    assert_eq!(fit(4, 2, &[PADDING, 0, 0, 0, 1, PADDING, 3, 3]), Ok(()));
 }
 
 #[test]

@@ -2,8 +2,8 @@
 #![allow(dead_code)]
 
 use fjalgrout::{
-    batch, build, build_room, close, most_answers, search, search_records, search_room, slack, Candidate, Params, Refusal, Scratch, Table, Vectors, Wanted,
-    PADDING,
+    batch, build, build_room, close, fit, lookup, most_answers, search, search_records, search_room, slack, Candidate, Params, Refusal, Scratch, Table,
+    Vectors, Wanted, PADDING,
 };
 
 pub const LINE: [u8; 4] = [10, 20, 30, 40];
@@ -77,15 +77,31 @@ pub fn line_search(query: u8, beam: usize, k: usize) -> Search {
     }
 }
 
+/// Which of the calls that search.
+enum Asked<'a> {
+    Search,
+    Lookup,
+    Records(&'a mut [Candidate]),
+}
+
 impl Search {
+    /// By the search; and where it takes the table, or refuses before it looks at its words, the lookup must do the same.
     pub fn answers(&self) -> Result<Vec<(u32, f32)>, Refusal> {
-        self.given(None)
+        let answers = self.given(Asked::Search);
+        if answers != Err(Refusal(8)) || fit(self.n, self.degree, &self.rows).is_ok() {
+            assert_eq!(self.looked_up(), answers, "the lookup");
+        }
+        answers
+    }
+
+    pub fn looked_up(&self) -> Result<Vec<(u32, f32)>, Refusal> {
+        self.given(Asked::Lookup)
     }
 
     /// With a run of so many records, which is looked at too.
     pub fn answers_in(&self, run: usize) -> Result<Vec<(u32, f32)>, Refusal> {
         let mut records: Vec<Candidate> = floats(run).into_iter().map(|distance| Candidate { id: PATTERN, distance }).collect();
-        let given = self.given(Some(&mut records[..run]));
+        let given = self.given(Asked::Records(&mut records[..run]));
         let answers = given.clone().unwrap_or_default();
         let (ids, distances): (Vec<u32>, Vec<f32>) = records.iter().map(|c| (c.id, c.distance)).unzip();
         assert!(answers.iter().zip(&records).all(|(a, c)| *a == (c.id, c.distance)), "the answers as records");
@@ -96,8 +112,8 @@ impl Search {
         given
     }
 
-    /// The answers of the call, with or without a run of records, once every word that it was lent has been looked at.
-    fn given(&self, run: Option<&mut [Candidate]>) -> Result<Vec<(u32, f32)>, Refusal> {
+    /// The answers of the call, once every word that it was lent has been looked at.
+    fn given(&self, asked: Asked) -> Result<Vec<(u32, f32)>, Refusal> {
         let n = self.bytes.len() / self.dim.clamp(1, 256);
         let (room, most) = (search_room(n), most_answers(self.beam, self.k));
         let (mut w, mut f, mut ids, mut dists) = (words(room.words), floats(room.floats), words(most), floats(most));
@@ -113,9 +129,10 @@ impl Search {
         let wanted = Wanted { beam: self.beam, k: self.k };
         let out = (&mut ids[..most - self.short[2]], &mut dists[..most - self.short[3]]);
         let v = vectors(self.n, self.dim, &self.bytes);
-        let given = match run {
-            None => search(v, table, wanted, &self.query, scratch, out.0, out.1),
-            Some(run) => search_records(v, table, wanted, &self.query, scratch, out.0, out.1, run),
+        let given = match asked {
+            Asked::Search => search(v, table, wanted, &self.query, scratch, out.0, out.1),
+            Asked::Lookup => lookup(v, table, wanted, &self.query, scratch, out.0, out.1),
+            Asked::Records(run) => search_records(v, table, wanted, &self.query, scratch, out.0, out.1, run),
         };
         let count = *given.as_ref().unwrap_or(&0);
         assert!(holds_pattern(&ids[count..]) && odd_from(count, &dists), "outputs beyond the answers");
