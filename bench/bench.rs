@@ -98,7 +98,7 @@ mod unchecked {
     use crate::ours::{Answer, Search};
 
     extern "C" {
-        fn accepted_search(
+        fn unchecked_search(
             n: usize,
             dim: usize,
             vectors: *const u8,
@@ -124,7 +124,7 @@ mod unchecked {
 
     pub fn search(s: Search, words: &mut [u32], floats: &mut [f32], ids: &mut [u32], dists: &mut [f32]) -> Answer {
         unsafe {
-            accepted_search(
+            unchecked_search(
                 s.n,
                 s.dim,
                 s.vectors.as_ptr(),
@@ -271,7 +271,7 @@ fn searches(i: &Input, table: &[u32], repeats: usize) {
             }
         })
     };
-    let (whole, accepted) = (each_query(ours::search), each_query(unchecked::search));
+    let (looked_up, whole, accepted) = (each_query(ours::lookup), each_query(ours::search), each_query(unchecked::search));
     let checks = best(repeats, || {
         for _ in &i.queries {
             call(ours::search, &long);
@@ -279,18 +279,20 @@ fn searches(i: &Input, table: &[u32], repeats: usize) {
     });
     let time = best(repeats, || i.queries.iter().for_each(|q| drop(black_box(probe::found(theirs(q), Bytes)))));
     let each = 1e6 / asked;
+    line("lookup, whole call", looked_up * each, time * each, "us");
     line("search, whole call", whole * each, time * each, "us");
     line("search on accepted input", accepted * each, time * each, "us");
+    println!("{:<28} {:.3}", "  lookup of accepted search", looked_up / accepted);
     let bytes = std::mem::size_of_val(table) as f64;
     println!("{:<28} ours {:>12.3} us   {:.1} bytes a ns", "  the checks alone", checks * each, bytes * asked / checks / 1e9);
 }
 
-/// Both give the same answers to each query, and so does the search without its checks. Counts 000's distances.
+/// Both give the same answers to each query, and so do the lookup and the search without its checks. Counts 000's distances.
 fn agree<'a>(i: &'a Input, theirs: impl Fn(&'a [u8]) -> probe::Search<'a>, table: &[u32]) {
     let n = i.n;
     for query in &i.queries {
         let expected = probe::search(theirs(query));
-        for search in [ours::search as Found, unchecked::search] {
+        for search in [ours::search as Found, ours::lookup, unchecked::search] {
             let call =
                 ours::Search { n, dim: DIM, vectors: &i.vectors, degree: PARAMS.degree, beam: BEAM, k: K, start: i.start, table, query };
             let (mut words, mut floats) = (vec![0; 2 * n + 256], vec![0.0; n + 256]);
