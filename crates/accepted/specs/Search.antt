@@ -1,20 +1,26 @@
 -- What a search has that is accepted: without a run of records, with one, and as a text of `seek`. A lookup is the search of its call as cleaned.
-use Prim.Native.Nat.{ℕ, _+_, _*_, _≤_, _<_}
+use Prim.Native.Nat.{ℕ, _+_, _*_, _≤_, _<_, max}
 use mathlib.Core.Path.{_≡_, ap}
 use mathlib.Core.Bool.{Bool, true, false, _||_}
-use mathlib.Core.List.{List}
+use mathlib.Core.List.{List, List·Memᴰ as Mem}
 use borrow.Author.Tests.{ltb-false, eqb-true, not-false}
 use lib.Dec.{ltb}
 use lib.ListN.{length}
 use Rattle.definition.specs.declared.Candidate.{Candidate}
-use Rattle.definition.specs.Tables.{searchRule}
+use Rattle.definition.specs.Tables.{row, searchRule}
+use Rattle.definition.specs.Metric.{fromQuery}
+use Rattle.definition.specs.Beam.{Item}
+use Rattle.definition.specs.Search.{searched, answers}
 use Rattle.definition.specs.Refusals.{SearchCall, short, searchWords, searchFloats, mostAnswers, searchShort, searchNumberAt, searchNumber, recordsNumber}
-use Rattle.definition.specs.Outcome.{cleanedCall}
+use Rattle.definition.specs.Outcome.{found, cleanedCall}
 use Rattle.definition.specs.Seek.{values, malformed, seekCall, seekNumber}
 use Rattle.laws.specs.Truth.{or-neither}
+use Rattle.laws.specs.Tables.{row-mem}
 use Rattle.laws.specs.Words.{Searchable}
 use Rattle.laws.specs.Cleaned.{cleaned-same}
-use Rattle.theory.specs.Rule.{searchRule-searchable}
+use Rattle.theory.specs.Rule.{searchRule-mem, searchRule-searchable}
+use Rattle.theory.specs.search.Ground.{Ground}
+use Rattle.theory.specs.search.Ranked.{ranked-own}
 use Rattle.accepted.specs.Chain.{passed}
 use Rattle.accepted.specs.Checks.{dim-good, vectors-good, degree-good, beam-good, start-good, searched-good}
 
@@ -117,6 +123,24 @@ cleaned-call c rule =
       ids = c .ids;
       dists = c .dists;
     }) (cleaned-same (c .n) (c .table) (searchRule-searchable (c .n) (c .table) rule))
+
+-- what an accepted search goes by; and each of its answers is an entry, with its own distance
+module _ (c : SearchCall) (a : SearchAccepted c) where
+  abbrev pub ground : Ground
+  ground =
+      record {
+        d = fromQuery (c .dim) (c .vectors) (c .query);
+        rows = row (c .degree) (c .table);
+        n = c .n;
+        beam = max (c .beam) 1;
+        start = c .start;
+        starts = a .start-in;
+        good = λ i w below m. searchRule-mem (c .n) (c .table) (a .ruled) w (row-mem (c .degree) (c .table) i m);
+      }
+
+  pub search-answers : (x : Item) → Mem x (found c) → (x .dist ≡ fromQuery (c .dim) (c .vectors) (c .query) (x .id)) × (x .id < c .n)
+  unfolding found answers searched
+  search-answers x m = ranked-own ground (c .k) x m
 
 -- with `run` records beside the two outputs
 pub accepted-at : (c : SearchCall) (run : ℕ) → searchNumberAt (searchShort c || ltb run (mostAnswers (c .beam) (c .k))) c ≡ 0

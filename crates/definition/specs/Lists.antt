@@ -1,5 +1,5 @@
 -- Small things on lists that the library lacks over the native numbers. Nothing here is about the index.
-use Prim.Native.Nat.{ℕ, zero, suc}
+use Prim.Native.Nat.{ℕ, zero, suc, _+_}
 use mathlib.Core.Bool.{Bool, true, false, not, _&&_, _||_, cond}
 use mathlib.Core.List.{List, [], _∷_, _++_}
 use lib.Dec.{ltb, eqb}
@@ -53,6 +53,11 @@ distinct (x ∷ xs) = not (isIn x xs) && distinct xs
 unfoldable pub onceOnly : List ℕ → List ℕ → List ℕ
 onceOnly seen [] = []
 onceOnly seen (x ∷ xs) = let a = onceOnly seen xs in let b = x ∷ onceOnly (x ∷ seen) xs in cond (isIn x seen) a b
+
+-- all added up
+unfoldable pub total : List ℕ → ℕ
+total [] = 0
+total (x ∷ xs) = x + total xs
 
 -- sorted by id, once each
 unfoldable pub rising : List ℕ → List ℕ

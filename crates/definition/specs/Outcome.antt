@@ -1,7 +1,7 @@
 -- What each public call leaves, from all that it is given and lent at entry: the answer, and every word of every lent slice at exit.
 -- `..Kept` is a refusal: nothing lent differs. `..Done` is a success: the stated scratch room is zero, what lies beyond it and beyond the answers is untouched.
 -- `..Meets` is the statement of the call, as its contract cites it.
-use Prim.Native.Nat.{ℕ, zero, suc}
+use Prim.Native.Nat.{ℕ, zero, suc, _*_, _/_, min}
 use mathlib.Core.Path.{_≡_}
 use mathlib.Core.List.{List, map}
 use lib.ListN.{length}
@@ -9,8 +9,9 @@ use lib.Ieee.{Float}
 use Rattle.definition.specs.declared.Answer.{Answer}
 use Rattle.definition.specs.declared.Params.{Params}
 use Rattle.definition.specs.declared.Candidate.{Candidate}
-use Rattle.definition.specs.Lists.{over, cleared}
-use Rattle.definition.specs.Metric.{metric, between, fromQuery, whole}
+use Rattle.definition.specs.declared.Report.{Report}
+use Rattle.definition.specs.Lists.{upto, total, over, cleared}
+use Rattle.definition.specs.Metric.{metric, vector, between, fromQuery, whole}
 use Rattle.definition.specs.Tables.{row, cleaned}
 use Rattle.definition.specs.Beam.{Item}
 use Rattle.definition.specs.Floats.{nought}
@@ -18,12 +19,13 @@ use Rattle.definition.specs.Batch.{Setting, batch}
 use Rattle.definition.specs.Build.{open′, close, built}
 use Rattle.definition.specs.Medoid.{medoid}
 use Rattle.definition.specs.Search.{answers}
+use Rattle.definition.specs.Recall.{nearest, hits, countOf}
 use Rattle.definition.specs.Draws.{Drawn, advance, drawn, rowsDrawn, seedsDrawn, orderDrawn, pivotsDrawn}
 use Rattle.definition.specs.Refusals.{DistanceCall, BatchCall, OpenCall, CloseCall, BuildCall, MedoidCall, SearchCall, FitCall}
-use Rattle.definition.specs.Refusals.{RowsCall, SeedsCall, DrawsCall}
+use Rattle.definition.specs.Refusals.{ExhaustiveCall, ReportCall, RowsCall, SeedsCall, DrawsCall}
 use Rattle.definition.specs.Refusals.{distanceNumber, batchNumber, openNumber, closeNumber, buildNumber, medoidNumber, searchNumber, recordsNumber}
-use Rattle.definition.specs.Refusals.{fitNumber, rowsNumber, seedsNumber, orderNumber, pivotsNumber}
-use Rattle.definition.specs.Refusals.{buildWords, buildFloats, searchWords, searchFloats}
+use Rattle.definition.specs.Refusals.{fitNumber, exhaustiveNumber, reportNumber, rowsNumber, seedsNumber, orderNumber, pivotsNumber}
+use Rattle.definition.specs.Refusals.{buildWords, buildFloats, searchWords, searchFloats, reportWords, reportFloats}
 
 -- ---- answers: the number, and the field that the call fills; every other field is 0
 
@@ -273,6 +275,80 @@ pub record LookupMeets (c : SearchCall) (o : SearchOut) : Type 0 where
 
 unfoldable pub fitOut : FitCall → Answer
 fitOut c = refused (fitNumber c)
+
+-- ---- exhaustive search
+
+-- the answers of an accepted one, best first
+unfoldable pub nearestTo : ExhaustiveCall → List Item
+nearestTo c = nearest (fromQuery (c .dim) (c .vectors) (c .query)) (c .n) (c .k)
+
+pub record ExhaustiveOut : Type 0 where
+  pub answer : Answer
+  pub ids : List ℕ
+  pub dists : List Float
+
+unfoldable pub exhaustiveKept : ExhaustiveCall → ExhaustiveOut
+exhaustiveKept c = record { answer = refused (exhaustiveNumber c); ids = c .ids; dists = c .dists }
+
+unfoldable pub exhaustiveDone : ExhaustiveCall → ExhaustiveOut
+exhaustiveDone c =
+    record {
+      answer = answer 0 (length (nearestTo c)) 0 0 nought;
+      ids = over (map (λ a. a .id) (nearestTo c)) (c .ids);
+      dists = over (map (λ a. whole (a .dist)) (nearestTo c)) (c .dists);
+    }
+
+unfoldable pub exhaustiveOut : ExhaustiveCall → ExhaustiveOut
+exhaustiveOut c = byNumber (exhaustiveNumber c) (exhaustiveKept c) (exhaustiveDone c)
+
+pub record ExhaustiveMeets (c : ExhaustiveCall) (o : ExhaustiveOut) : Type 0 where
+  pub answer-is : o .answer ≡ exhaustiveOut c .answer
+  pub ids-are : o .ids ≡ exhaustiveOut c .ids
+  pub dists-are : o .dists ≡ exhaustiveOut c .dists
+
+-- ---- report
+
+unfoldable pub reported : ℕ → ℕ → ℕ → ℕ → ℕ → Report
+reported number queries asked found whole = record { number = number; queries = queries; asked = asked; found = found; whole = whole }
+
+-- how many queries there are, and how many entries are asked for by each
+unfoldable pub queryCount : ReportCall → ℕ
+queryCount c = length (c .queries) / c .dim
+
+unfoldable pub askedEach : ReportCall → ℕ
+askedEach c = min (c .k) (c .n)
+
+-- how many of the nearest to query q the search brings; and so of each query
+unfoldable pub hitsAt : ReportCall → ℕ → ℕ
+hitsAt c q =
+    hits (fromQuery (c .dim) (c .vectors) (vector (c .dim) (c .queries) q)) (row (c .degree) (c .table)) (c .n) (c .beam) (c .start) (c .k)
+
+unfoldable pub allHits : ReportCall → List ℕ
+allHits c = map (hitsAt c) (upto (queryCount c))
+
+pub record ReportOut : Type 0 where
+  pub report : Report
+  pub words : List ℕ
+  pub floats : List Float
+
+unfoldable pub reportKept : ReportCall → ReportOut
+reportKept c = record { report = reported (reportNumber c) 0 0 0 0; words = c .words; floats = c .floats }
+
+unfoldable pub reportDone : ReportCall → ReportOut
+reportDone c =
+    record {
+      report = reported 0 (queryCount c) (queryCount c * askedEach c) (total (allHits c)) (countOf (askedEach c) (allHits c));
+      words = cleared 0 (reportWords (c .n)) (c .words);
+      floats = cleared nought (reportFloats (c .n)) (c .floats);
+    }
+
+unfoldable pub reportOut : ReportCall → ReportOut
+reportOut c = byNumber (reportNumber c) (reportKept c) (reportDone c)
+
+pub record ReportMeets (c : ReportCall) (o : ReportOut) : Type 0 where
+  pub report-is : o .report ≡ reportOut c .report
+  pub words-is : o .words ≡ reportOut c .words
+  pub floats-is : o .floats ≡ reportOut c .floats
 
 -- ---- draws
 

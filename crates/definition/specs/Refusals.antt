@@ -1,6 +1,6 @@
 -- The numbers returned. For each public call: what it is lent and given, and the number of the first check that holds, 0 for none.
 -- A call checks, in rising number, those that concern its arguments.
-use Prim.Native.Nat.{ℕ, _+_, _*_, min, max}
+use Prim.Native.Nat.{ℕ, _+_, _*_, _/_, _%_, min, max}
 use mathlib.Core.Bool.{Bool, true, false, not, _&&_, _||_}
 use mathlib.Core.List.{List}
 use lib.Dec.{leb, ltb, eqb}
@@ -92,6 +92,21 @@ module _ {A : Type 0} where
 
 unfoldable pub badPivots : ℕ → List ℕ → Bool
 badPivots n pivots = eqb (length pivots) 0 || (ltb 8 (length pivots) || not (each (λ p. ltb p n) pivots))
+
+-- 14: how many of the nearest are asked for, where that has limits
+unfoldable pub badK : ℕ → Bool
+badK k = eqb k 0 || ltb 256 k
+
+-- 11, of queries one after another: their bytes are no multiple of dim, or there are too many
+unfoldable pub badQueries : ℕ → List ℕ → Bool
+badQueries dim queries = not (eqb (length queries % dim) 0) || ltb 65535 (length queries / dim)
+
+-- the room for a report: a search's, and 512 more of each kind
+unfoldable pub reportWords : ℕ → ℕ
+reportWords n = searchWords n + 512
+
+unfoldable pub reportFloats : ℕ → ℕ
+reportFloats n = searchFloats n + 512
 
 -- ---- distance
 
@@ -268,6 +283,54 @@ fitNumber c =
     2 when badCount (c .n) else
     3 when badDegree (c .degree) else
     8 when badSearched (c .n) (c .degree) (c .table) else
+    0
+
+-- ---- exhaustive search
+
+pub record ExhaustiveCall : Type 0 where
+  pub n : ℕ
+  pub dim : ℕ
+  pub vectors : List ℕ
+  pub k : ℕ
+  pub query : List ℕ
+  pub ids : List ℕ
+  pub dists : List Float
+
+unfoldable pub exhaustiveNumber : ExhaustiveCall → ℕ
+exhaustiveNumber c =
+    1 when badDim (c .dim) else
+    2 when badVectors (c .n) (c .dim) (c .vectors) else
+    10 when short (min (c .k) (c .n)) (c .ids) || short (min (c .k) (c .n)) (c .dists) else
+    11 when not (eqb (length (c .query)) (c .dim)) else
+    14 when badK (c .k) else
+    0
+
+-- ---- report: a search and an exhaustive search of each query; `queries` holds them one after another
+
+pub record ReportCall : Type 0 where
+  pub n : ℕ
+  pub dim : ℕ
+  pub vectors : List ℕ
+  pub degree : ℕ
+  pub beam : ℕ
+  pub k : ℕ
+  pub start : ℕ
+  pub table : List ℕ
+  pub queries : List ℕ
+  pub words : List ℕ
+  pub floats : List Float
+
+unfoldable pub reportNumber : ReportCall → ℕ
+reportNumber c =
+    1 when badDim (c .dim) else
+    2 when badVectors (c .n) (c .dim) (c .vectors) else
+    3 when badDegree (c .degree) else
+    4 when badBeam (c .beam) else
+    6 when badStart (c .n) (c .start) else
+    8 when badSearched (c .n) (c .degree) (c .table) else
+    10 when short (reportWords (c .n)) (c .words) || short (reportFloats (c .n)) (c .floats) else
+    11 when badQueries (c .dim) (c .queries) else
+    14 when badK (c .k) else
     0
 
 -- ---- draws. A single draw is never refused

@@ -1,4 +1,4 @@
-// The records that the definition speaks of: what a public call returns, the build parameters, and one answer of a search.
+// The records that the definition speaks of: what a public call returns, the build parameters, one answer of a search, and the report of recall.
 
 ghost use mathlib.Core.Path.{_≡_};
 ghost use Rattle.definition.specs.Defaults.{defaults};
@@ -49,4 +49,15 @@ impl Params {
 pub struct Candidate {
     pub id: u32,
     pub distance: f32,
+}
+
+// What a report returns: its number; how many queries there were, how many entries were asked for, how many of the true nearest the searches brought, and for
+// how many queries they brought all.
+#[repr(C)]
+pub struct Report {
+    pub number: u32,
+    pub queries: usize,
+    pub asked: usize,
+    pub found: usize,
+    pub whole: usize,
 }

@@ -4,15 +4,15 @@ use native.Mathlib.Omega.{arith}
 use mathlib.Core.Path.{_≡_, refl, sym, ap, _∙_, subst}
 use mathlib.Core.Logic.{_≢_, _⊎_, inl, inr, ∥∥₁-elim}
 use mathlib.Core.HLevel.{⊥-prop}
-use mathlib.Core.Bool.{true, not}
+use mathlib.Core.Bool.{Bool, true, not}
 use mathlib.Core.List.{List, [], _∷_, _++_, map, Pairwise·nil, Pairwise·cons, List·Nodup, List·Memᴰ as Mem, List·Memᴰ·head as here, List·Memᴰ·tail as there}
 use mathlib.Core.List.{List·Memᴰ·not-nil as not-nil, List·Memᴰ·cases-cons as cases, List·Memᴰ·append-cases as split, List·Memᴰ·eq-of-singleton as only-one}
 use mathlib.Core.List.{Memᴰ·of-map as of-map}
 use borrow.Author.Tests.{not-true}
 use lib.ListN.{length, take, drop}
-use Rattle.definition.specs.Lists.{run, isIn, distinct}
-use Rattle.laws.specs.Truth.{and-both, both-and, is-not}
-use Rattle.laws.specs.Members.{take-mem, isIn-none, none-isIn, run-mem, mem-run, length-run}
+use Rattle.definition.specs.Lists.{keep, run, isIn, distinct}
+use Rattle.laws.specs.Truth.{either, decide, and-both, both-and, is-not}
+use Rattle.laws.specs.Members.{cons-elim, take-mem, keep-mem, isIn-mem, isIn-none, none-isIn, run-mem, mem-run, length-run}
 
 -- each unlike all later ones
 pub data Apart {A : Type 0} : List A → Type 0 where
@@ -55,6 +55,12 @@ module _ {A : Type 0} where
   apart-drop zero a = a
   apart-drop (suc k) nobody = nobody
   apart-drop (suc k) (another n a) = apart-drop k a
+
+  pub apart-keep : (p : A → Bool) {xs : List A} → Apart xs → Apart (keep p xs)
+  unfolding keep
+  apart-keep p nobody = nobody
+  apart-keep p (another {x = x} {xs = xs} n a) =
+      either (λ (l : List A). Apart l) (p x) (another (λ m. n (keep-mem p xs m .0)) (apart-keep p a)) (apart-keep p a)
 
 -- images of a list of which no two are alike
 pub apart-map : {A B : Type 0} (f : A → B) {xs : List A} → ((x y : A) → Mem x xs → Mem y xs → f x ≡ f y → x ≡ y) → Apart xs → Apart (map f xs)
@@ -122,3 +128,9 @@ pub apart-below : {xs : List ℕ} (n : ℕ) → Apart xs → ((z : ℕ) → Mem 
 apart-below n a f =
     let le = apart-within (run 0 n) a (λ z m. mem-run 0 n z zero-le (omega (arith, f z m))) in
     omega (arith, length-run 0 n)
+
+-- and n of them are all
+pub apart-full : {xs : List ℕ} (n : ℕ) → Apart xs → ((z : ℕ) → Mem z xs → z < n) → n ≤ length xs → (i : ℕ) → i < n → Mem i xs
+apart-full {xs} n a f h i l =
+    decide (isIn i xs) (isIn-mem i xs)
+    (λ e. let most = apart-below n (another (isIn-none i xs e) a) (cons-elim (λ z. z < n) i xs l f) in absurd (omega arith))

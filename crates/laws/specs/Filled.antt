@@ -4,7 +4,8 @@ use mathlib.Core.List.{List, [], _∷_, _++_, append-nil}
 use Prim.Native.Nat.{ℕ, zero, suc, _+_, _≤_, _<_}
 use native.Mathlib.Omega.{arith}
 use native.Mathlib.Numerals.{add-one}
-use lib.ListN.{length, set, drop, replicate, length-append, length-replicate, length-set, drop-of-length-le}
+use lib.ListN.{length, getD, set, drop, replicate, length-append, length-replicate, length-set, length-drop, drop-of-length-le}
+use lib.ListN.{getD-replicate, List·getD-append}
 use lib.Seq.{drop-at}
 use Rattle.definition.specs.Lists.{cleared}
 
@@ -35,11 +36,26 @@ module _ {A : Type 0} (v : A) where
       let q : i ≡ length old = omega (arith, f .within) in
       f .is ∙ rw (drop-of-length-le old {i = i} h, append-nil, q) refl
 
-  -- what was cleared is long enough to be cleared again, and beyond that front it is as it was
+  -- what was cleared is long enough to be cleared again and no longer than before, and beyond that front it is as it was
   pub cleared-long : (room : ℕ) (old : List A) → room ≤ length (cleared v room old)
   unfolding cleared
   cleared-long room old = omega (arith, length-append (replicate room v) (drop room old), length-replicate room v)
 
+  pub cleared-length : (room : ℕ) (old : List A) → room ≤ length old → length (cleared v room old) ≡ length old
+  unfolding cleared
+  cleared-length room old h = omega (arith, length-append (replicate room v) (drop room old), length-replicate room v, length-drop room old)
+
   pub cleared-beyond : (room : ℕ) (old : List A) → drop room (cleared v room old) ≡ drop room old
   unfolding cleared
   cleared-beyond room old = drop-at (replicate room v) (drop room old) room (length-replicate room v)
+
+  -- lists that are the same beyond a front are the same when it is cleared
+  pub cleared-same : (room : ℕ) (a b : List A) → drop room a ≡ drop room b → cleared v room a ≡ cleared v room b
+  unfolding cleared
+  cleared-same room a b e = ap (λ (l : List A). replicate room v ++ l) e
+
+  -- what stands in the front
+  pub cleared-at : (room : ℕ) (old : List A) (i : ℕ) (d : A) → i < room → getD (cleared v room old) i d ≡ v
+  unfolding cleared
+  cleared-at room old i d h =
+      List·getD-append (replicate room v) (drop room old) d i (omega (arith, length-replicate room v)) ∙ getD-replicate room i v d h

@@ -1,6 +1,6 @@
--- A list with f of each element: what stands at a place of it, one element more, a front cut off, one place set.
-use mathlib.Core.Path.{_≡_, refl, ap}
-use mathlib.Core.List.{List, [], _∷_, _++_, map}
+-- A list with f of each element: what stands at a place of it, one element more, a front cut off, one place set; the same with g, where f and g agree.
+use mathlib.Core.Path.{_≡_, refl, ap, ap₂}
+use mathlib.Core.List.{List, [], _∷_, _++_, map, List·Memᴰ as Mem, List·Memᴰ·head as here, List·Memᴰ·tail as there}
 use Prim.Native.Nat.{ℕ, zero, suc, _<_}
 use native.Mathlib.Omega.{arith}
 use lib.ListN.{length, getD, drop, set}
@@ -24,3 +24,7 @@ module _ {A B : Type 0} (f : A → B) where
   map-set [] i x = refl
   map-set (y ∷ ys) zero x = refl
   map-set (y ∷ ys) (suc i) x = ap (λ (z : List B). f y ∷ z) (map-set ys i x)
+
+pub map-same : {A B : Type 0} (f g : A → B) (l : List A) → ((x : A) → Mem x l → f x ≡ g x) → map f l ≡ map g l
+map-same f g [] h = refl
+map-same {A} {B} f g (x ∷ xs) h = ap₂ (λ (y : B) (ys : List B). y ∷ ys) (h x (here refl)) (map-same f g xs (λ z m. h z (there m)))

@@ -27,8 +27,8 @@ use Rattle.theory.specs.search.Alike.{readOf, greedy-alike}
 use Rattle.theory.specs.search.Plain.{plainRow, plain-length, plain-words, plain-read, padded-words, padded-read}
 use Rattle.accepted.specs.Outcomes.{by-success}
 use Rattle.accepted.specs.Checks.{searched-passes}
-use Rattle.accepted.specs.Search.{SearchAccepted, search-accepted, records-accepted}
-use Rattle.promises.specs.Searching.{rowsOf, ground}
+use Rattle.accepted.specs.Search.{SearchAccepted, ground, search-accepted, records-accepted}
+use Rattle.promises.specs.Searching.{rowsOf}
 
 -- the call with another table
 abbrev pub withTable : List ℕ → SearchCall → SearchCall

@@ -29,9 +29,9 @@ use Rattle.laws.specs.Places.{places-ordered}
 use Rattle.laws.specs.Items.{nearer-is}
 use Rattle.theory.specs.search.Tells.{from-start, SearchTells, Excludes}
 use Rattle.accepted.specs.Outcomes.{by-success, said-zero}
-use Rattle.accepted.specs.Search.{SearchAccepted, search-accepted, records-accepted}
+use Rattle.accepted.specs.Search.{SearchAccepted, search-accepted, records-accepted, search-answers}
 use Rattle.promises.specs.Outcomes.{search-is, records-is}
-use Rattle.promises.specs.Searching.{rowsOf, distanceTo, lastDistance, search-tells, search-excludes, search-answers, search-order}
+use Rattle.promises.specs.Searching.{rowsOf, distanceTo, lastDistance, search-tells, search-excludes, search-order}
 
 -- `count` answers stand at the front of `ids` and `dists`: those of the definition, at least one unless k is 0, each id below n and with its own distance
 -- beside it, by distance and then the lower id; the distance of the last one stands last; and they tell and exclude what demand 3 says

@@ -10,6 +10,8 @@
 --   BeamZero, Harmless  beam 0 acts as 1; padding anywhere, repeats and own ids change nothing
 --   LookingUp           lookup: its number, a refusal, the search that it is, demand 3 over the rows as it reads them
 --   Fitting             fit: what 0 says, and what it says of a search and of a lookup
+--   Exhausting          exhaustive search: the nearest of all, and what is left out
+--   Reporting           the report of recall: what its counts say of each other, when it counts all, and that it is its calls
 --   Seeking             the program `seek`: what it prints, read back, tells and excludes the same; 10 and 11 never come from it
 --   Medoid              the medoid's score, and that the least wins
 --   Drawn               what is drawn is acceptable; rows are full; how soon a seed is found
@@ -23,6 +25,8 @@ pub mod Held
 pub mod BeamZero
 pub mod Harmless
 pub mod LookingUp
+pub mod Exhausting
+pub mod Reporting
 pub mod Seeking
 pub mod Rows
 pub mod Fitting

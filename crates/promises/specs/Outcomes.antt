@@ -7,11 +7,12 @@ use mathlib.Core.List.{List}
 use Rattle.definition.specs.declared.Answer.{Answer}
 use Rattle.definition.specs.declared.Candidate.{Candidate}
 use Rattle.definition.specs.Refusals.{DistanceCall, BatchCall, OpenCall, CloseCall, BuildCall, MedoidCall, SearchCall, FitCall, RowsCall}
-use Rattle.definition.specs.Refusals.{SeedsCall, DrawsCall}
+use Rattle.definition.specs.Refusals.{ExhaustiveCall, ReportCall, SeedsCall, DrawsCall}
 use Rattle.definition.specs.Outcome.{distanceOut, medoidOut, BatchOut, BatchMeets, batchOut, OpenOut, OpenMeets, openOut, CloseOut, CloseMeets, closeOut}
 use Rattle.definition.specs.Outcome.{BuildOut, BuildMeets, buildOut}
 use Rattle.definition.specs.Outcome.{SearchOut, SearchMeets, searchOut, RecordsOut, RecordsMeets, recordsOut, DrawOut, DrawMeets, drawOut, FillOut, FillMeets}
-use Rattle.definition.specs.Outcome.{LookupMeets, lookupOut, fitOut, rowsOut, seedsOut, orderOut, pivotsOut}
+use Rattle.definition.specs.Outcome.{LookupMeets, lookupOut, fitOut, ExhaustiveOut, ExhaustiveMeets, exhaustiveOut, ReportOut, ReportMeets, reportOut}
+use Rattle.definition.specs.Outcome.{rowsOut, seedsOut, orderOut, pivotsOut}
 
 module _ {A : Type 0} where
   one : {x o p : A} → o ≡ x → p ≡ x → o ≡ p
@@ -49,6 +50,12 @@ lookup-is m = λ i. record { answer = m .answer-is i; words = m .words-is i; flo
 pub records-is : {c : SearchCall} {rs : List Candidate} {o : RecordsOut} → RecordsMeets c rs o → o ≡ recordsOut c rs
 records-is m = λ i. record { plain = m .plain-is i; records = m .records-are i }
 
+pub exhaustive-is : {c : ExhaustiveCall} {o : ExhaustiveOut} → ExhaustiveMeets c o → o ≡ exhaustiveOut c
+exhaustive-is m = λ i. record { answer = m .answer-is i; ids = m .ids-are i; dists = m .dists-are i }
+
+pub report-is : {c : ReportCall} {o : ReportOut} → ReportMeets c o → o ≡ reportOut c
+report-is m = λ i. record { report = m .report-is i; words = m .words-is i; floats = m .floats-is i }
+
 pub draw-is : {m s : ℕ} {o : DrawOut} → DrawMeets m s o → o ≡ drawOut m s
 draw-is m = λ i. record { answer = m .answer-is i; state = m .state-is i }
 
@@ -78,6 +85,12 @@ lookup-same c x y = one (lookup-is x) (lookup-is y)
 
 pub records-same : (c : SearchCall) (rs : List Candidate) {o p : RecordsOut} → RecordsMeets c rs o → RecordsMeets c rs p → o ≡ p
 records-same c rs x y = one (records-is x) (records-is y)
+
+pub exhaustive-same : (c : ExhaustiveCall) {o p : ExhaustiveOut} → ExhaustiveMeets c o → ExhaustiveMeets c p → o ≡ p
+exhaustive-same c x y = one (exhaustive-is x) (exhaustive-is y)
+
+pub report-same : (c : ReportCall) {o p : ReportOut} → ReportMeets c o → ReportMeets c p → o ≡ p
+report-same c x y = one (report-is x) (report-is y)
 
 pub draw-same : (m s : ℕ) {o p : DrawOut} → DrawMeets m s o → DrawMeets m s p → o ≡ p
 draw-same m s x y = one (draw-is x) (draw-is y)

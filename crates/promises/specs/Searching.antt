@@ -1,7 +1,7 @@
 -- Demand 3, second sentence: what the answers of a search tell, and what they exclude. For every accepted search, with a run of records or not, and every
 -- accepted text of `seek` (crate accepted says what those have), for every k: as many answers are asked for as min(k, max(beam, 1)).
 -- "Answers by distance, then id, cut to k." Each has its own distance and is below n; they stand in strict order; what is cut off comes after all of them.
-use Prim.Native.Nat.{ℕ, _-_, _≤_, _<_, max, min}
+use Prim.Native.Nat.{ℕ, _-_, _≤_, max, min}
 use native.Mathlib.Omega.{arith}
 use mathlib.Core.Path.{_≡_, refl, sym, subst}
 use mathlib.Core.Logic.{_⊎_, inl, inr}
@@ -16,16 +16,13 @@ use Rattle.definition.specs.Greedy.{State, greedy}
 use Rattle.definition.specs.Search.{listedFirst, ranked, searched, answers}
 use Rattle.definition.specs.Refusals.{SearchCall, searchNumber}
 use Rattle.definition.specs.Outcome.{found, foundIds}
-use Rattle.laws.specs.Members.{take-mem}
-use Rattle.laws.specs.Sorting.{Ordered, sort-mem, mem-sort, take-ordered, ordered-across, ordered-pairwise}
-use Rattle.laws.specs.Tables.{row-mem}
+use Rattle.laws.specs.Sorting.{Ordered, mem-sort, take-ordered, ordered-across, ordered-pairwise}
 use Rattle.laws.specs.Items.{idsOf}
-use Rattle.theory.specs.Rule.{searchRule-mem}
 use Rattle.theory.specs.search.Tells.{SearchTells, Excludes}
 use Rattle.theory.specs.search.Ground.{Ground}
 use Rattle.theory.specs.search.Stopped.{stopped-ordered, stopped-tells, stopped-excludes}
-use Rattle.theory.specs.search.Ends.{greedy-done, greedy-keeps}
-use Rattle.accepted.specs.Search.{SearchAccepted, search-accepted}
+use Rattle.theory.specs.search.Ends.{greedy-done}
+use Rattle.accepted.specs.Search.{SearchAccepted, ground, search-accepted}
 
 -- the rows of a call, and the distance from its query to an entry
 abbrev pub rowsOf : SearchCall → ℕ → List ℕ
@@ -39,20 +36,10 @@ abbrev pub lastDistance : SearchCall → ℕ
 lastDistance c = getD (found c) (length (found c) - 1) nobody .dist
 
 module _ (c : SearchCall) (a : SearchAccepted c) where
-  -- what the call's search goes by
-  abbrev pub ground : Ground
-  ground =
-      record {
-        d = fromQuery (c .dim) (c .vectors) (c .query);
-        rows = row (c .degree) (c .table);
-        n = c .n;
-        beam = max (c .beam) 1;
-        start = c .start;
-        starts = a .start-in;
-        good = λ i w below m. searchRule-mem (c .n) (c .table) (a .ruled) w (row-mem (c .degree) (c .table) i m);
-      }
+  abbrev g : Ground
+  g = ground c a
 
-  open Ground ground using (d, rows, beam)
+  open Ground g using (d, rows, beam)
 
   abbrev end : State
   end = greedy d rows (c .n) beam (c .start)
@@ -66,24 +53,17 @@ module _ (c : SearchCall) (a : SearchAccepted c) where
   unfolding foundIds best
   search-tells =
       subst (λ (l : List Item). SearchTells rows d (c .start) (min (c .k) beam) (idsOf l) (best l .dist)) (sym found-is)
-      (stopped-tells ground end (greedy-done ground) (c .k))
+      (stopped-tells g end (greedy-done g) (c .k))
 
   pub search-excludes : Excludes (row (c .degree) (c .table)) (fromQuery (c .dim) (c .vectors) (c .query)) (c .start) (foundIds c) (lastDistance c)
   unfolding foundIds best
   search-excludes =
-      subst (λ (l : List Item). Excludes rows d (c .start) (idsOf l) (best l .dist)) (sym found-is) (stopped-excludes ground end (greedy-done ground) (c .k))
-
-  pub search-answers : (x : Item) → Mem x (found c) → (x .dist ≡ fromQuery (c .dim) (c .vectors) (c .query) (x .id)) × (x .id < c .n)
-  search-answers x m =
-      let k = greedy-keeps ground in
-      let sorted = sort listedFirst (end .work) in
-      let in-visited = k .holding .seen x (sort-mem listedFirst (end .work) (take-mem (c .k) sorted (subst (λ (l : List Item). Mem x l) found-is m))) in
-      (k .seen .own x in-visited, k .seen .below x in-visited)
+      subst (λ (l : List Item). Excludes rows d (c .start) (idsOf l) (best l .dist)) (sym found-is) (stopped-excludes g end (greedy-done g) (c .k))
 
   pub search-order : Ordered listedFirst (found c)
   search-order =
       subst (λ (l : List Item). Ordered listedFirst l) (sym found-is)
-      (take-ordered (c .k) (sort listedFirst (end .work)) (stopped-ordered ground end (greedy-done ground)))
+      (take-ordered (c .k) (sort listedFirst (end .work)) (stopped-ordered g end (greedy-done g)))
 
   pub search-ordered : Pairwise (λ (x y : Item). listedFirst x y ≡ true) (found c)
   search-ordered = ordered-pairwise search-order
@@ -106,7 +86,7 @@ module _ (c : SearchCall) (a : SearchAccepted c) where
       go (inl m) = absurd (out (subst (λ (l : List Item). Mem x l) (sym found-is) m))
       go (inr m) =
           ordered-across (take (c .k) sorted) (drop (c .k) sorted)
-          (subst (λ (l : List Item). Ordered listedFirst l) (sym parts) (stopped-ordered ground end (greedy-done ground))) y x
+          (subst (λ (l : List Item). Ordered listedFirst l) (sym parts) (stopped-ordered g end (greedy-done g))) y x
           (subst (λ (l : List Item). Mem y l) found-is answered) m
 
 -- where k is at least the beam, a beam of 0 read as 1, the beam's number is asked for

@@ -25,8 +25,8 @@ use Rattle.theory.specs.seek.Room.{seek-room}
 use Rattle.theory.specs.seek.Samples.{text-bytes, query-length}
 use Rattle.theory.specs.search.Tells.{SearchTells, Excludes}
 use Rattle.accepted.specs.Outcomes.{by-success}
-use Rattle.accepted.specs.Search.{SearchAccepted, seek-accepted}
-use Rattle.promises.specs.Searching.{rowsOf, distanceTo, lastDistance, search-tells, search-excludes, search-answers, search-ordered}
+use Rattle.accepted.specs.Search.{SearchAccepted, seek-accepted, search-answers}
+use Rattle.promises.specs.Searching.{rowsOf, distanceTo, lastDistance, search-tells, search-excludes, search-ordered}
 use Rattle.theory.specs.seek.Decimals.{decimal-reads-back}
 use Rattle.theory.specs.seek.Printing.{countRead, itemsRead, Small, items-read}
 

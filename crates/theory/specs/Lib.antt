@@ -4,6 +4,7 @@
 --   Kept, Rule    what rows are; that the test of 8 says so, and what is known of a table's words
 --   prune         what pruning leaves; its floats stay below f32::MAX; its rounds end
 --   search        what holds along a greedy search; that it ends, what it tells and excludes, what it reads of a row
+--   recall        the k nearest of all; how many of them a search brings, and what the counts of a report say
 --   build         open, a batch, the runs of a build and close keep rows; the runs end; what does not matter to them
 --   draws         what is drawn passes the checks that take it; a seed is found soon
 --   seek          what a well-formed text holds; what is printed reads back
@@ -13,6 +14,7 @@ pub mod Kept
 pub mod Rule
 pub mod prune
 pub mod search
+pub mod recall
 pub mod build
 pub mod draws
 pub mod seek

@@ -9,11 +9,12 @@ use Rattle.definition.specs.declared.Params.{Params}
 use Rattle.definition.specs.Floats.{nought}
 use Rattle.definition.specs.Refusals.{BatchCall, OpenCall, CloseCall, BuildCall, buildWords, buildFloats}
 use Rattle.definition.specs.Refusals.{distanceNumber, batchNumber, openNumber, closeNumber, buildNumber, medoidNumber, searchNumber, recordsNumber}
-use Rattle.definition.specs.Refusals.{fitNumber, rowsNumber, seedsNumber, orderNumber, pivotsNumber}
+use Rattle.definition.specs.Refusals.{fitNumber, exhaustiveNumber, reportNumber, rowsNumber, seedsNumber, orderNumber, pivotsNumber}
 use Rattle.definition.specs.Outcome.{openOut, batchOut, closeOut, buildOut, cleanedCall}
 use Rattle.definition.specs.checked.Opened.{opened}
 use Rattle.definition.specs.checked.Samples.{line, lineRows, lineCall}
 use Rattle.definition.specs.checked.Lookups.{strayRows, tableCall, enough}
+use Rattle.definition.specs.checked.Recalls.{nearCall, reportCall}
 
 -- ---- the calls. Degree 2, so slack 3; beam 2, alpha 1.2, one seed for each node
 
@@ -121,6 +122,14 @@ lookup-passes = refl
 pub fit-passes : fitNumber (record { n = 4; degree = 2; table = lineRows }) ≡ 0
 unfolding opened lineRows
 fit-passes = refl
+
+pub exhaustive-passes : exhaustiveNumber (nearCall line (25 ∷ []) 2 2) ≡ 0
+unfolding opened nearCall line
+exhaustive-passes = refl
+
+pub report-passes : reportNumber (reportCall line 4 2 (25 ∷ 38 ∷ [])) ≡ 0
+unfolding opened reportCall lineRows line
+report-passes = refl
 
 pub rows-passes : rowsNumber (record { n = 4; degree = 2; table = replicate 8 7; state = 0 }) ≡ 0
 unfolding opened
