@@ -7,6 +7,7 @@ use native.Mathlib.Numerals.{add-one}
 use native.Mathlib.Omega.{arith}
 use lib.ListN.{length, getD, set, drop, replicate, length-set, length-drop, drop-of-length-le}
 use lib.Seq.{drop-cons}
+use Rattle.definition.specs.Lists.{total}
 use Rattle.definition.specs.Metric.{squared, summed, metric}
 use Rattle.whole.specs.Whole.{farthest}
 use Rattle.theory.specs.Metric.{Bytes, bytes-drop, good-most, byte-metric}
@@ -21,11 +22,6 @@ pub record Stretch (a b : List ℕ) (from to : ℕ) : Type 0 where
 -- r is what that stretch adds: with what the samples after it add, it is what those from its start on add
 pub record Adds (a b : List ℕ) (from to r : ℕ) : Type 0 where
   pub is : r + metric (drop to a) (drop to b) ≡ metric (drop from a) (drop from b)
-
--- what some sums come to
-unfoldable pub total : List ℕ → ℕ
-total [] = 0
-total (s ∷ sums) = s + total sums
 
 -- eight sums: together they are what the samples before `at` add
 pub record Eight (a b : List ℕ) (at : ℕ) (sums : List ℕ) : Type 0 where

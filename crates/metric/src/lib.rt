@@ -2,13 +2,14 @@
 
 use definition::Answer;
 ghost use mathlib.Core.Path.{_≡_};
-ghost use Prim.Native.Nat.{ℕ, _+_, _*_, _<_, _≤_};
+ghost use Prim.Native.Nat.{ℕ, _+_, _-_, _*_, _%_, _<_, _≤_};
 ghost use lib.ListN.{length, getD};
+ghost use Rattle.definition.specs.Lists.{total};
 ghost use Rattle.definition.specs.Metric.{squared, metric, fromQuery, between};
 ghost use Rattle.definition.specs.Outcome.{distanceOut};
 ghost use Rattle.whole.specs.Whole.{farthest};
 ghost use Rattle.metric.specs.Exact.{Exact, VectorIn, Distances};
-ghost use Rattle.metric.specs.Stretches.{Stretch, Adds, Eight, total};
+ghost use Rattle.metric.specs.Stretches.{Stretch, Adds, Eight};
 
 // What two samples add to a distance. The difference is signed, and not worked out by a branch, so that eight of them go into one instruction.
 fn squared(x: u8, y: u8) -> u32
@@ -32,8 +33,22 @@ fn add_eight(sums: &mut [u32; 8], a: &[u8], b: &[u8], at: usize)
     }
 }
 
+// The samples from `from` up to `to`, eight at a time.
+pub fn add_eights(sums: &mut [u32; 8], a: &[u8], b: &[u8], from: usize, to: usize)
+    requires { ⌜ Stretch (now a) (now b) from to ⌝ }
+    requires { ⌜ (to - from) % 8 ≡ 0 ⌝ }
+    requires { ⌜ Eight (now a) (now b) from (now sums) ⌝ }
+    ensures { λ _. ⌜ Eight (now (a .entry)) (now (b .entry)) to (now (sums .exit)) ⌝ }
+{
+    let mut i = from;
+    while i < to {
+        add_eight(sums, a, b, i);
+        i += 8;
+    }
+}
+
 // The eight sums added up.
-fn total(sums: &[u32; 8]) -> u32
+pub fn total(sums: &[u32; 8]) -> u32
     requires { ⌜ (length (now sums) ≡ 8) × (total (now sums) ≤ farthest) ⌝ }
     ensures { λ r. ⌜ r ≡ total (now (sums .entry)) ⌝ }
 {
@@ -47,7 +62,7 @@ fn total(sums: &[u32; 8]) -> u32
 }
 
 // What the samples from `from` on add to the distance of two vectors.
-fn rest(a: &[u8], b: &[u8], from: usize) -> u32
+pub fn rest(a: &[u8], b: &[u8], from: usize) -> u32
     requires { ⌜ Stretch (now a) (now b) from (length (now a)) ⌝ }
     ensures { λ r. ⌜ Adds (now (a .entry)) (now (b .entry)) from (length (now (a .entry))) r ⌝ }
 {
@@ -67,11 +82,7 @@ fn summed(a: &[u8], b: &[u8]) -> u32
 {
     let eights = a.len() - a.len() % 8;
     let mut sums = [0u32; 8];
-    let mut i = 0;
-    while i < eights {
-        add_eight(&mut sums, a, b, i);
-        i += 8;
-    }
+    add_eights(&mut sums, a, b, 0, eights);
     total(&sums) + rest(a, b, eights)
 }
 

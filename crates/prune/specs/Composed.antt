@@ -15,7 +15,7 @@ use Rattle.whole.specs.Whole.{limit}
 use Rattle.metric.specs.Exact.{VectorIn}
 use Rattle.laws.specs.All.{All, all-take}
 use Rattle.laws.specs.Paired.{itemsOf, items-ids, ids-items}
-use Rattle.prune_items.specs.Sorting.{all-sort}
+use Rattle.offers.specs.Sorting.{all-sort}
 use Rattle.prune_pool.specs.Says.{Distinct, Pool, Chosen}
 use Rattle.table.specs.Rows.{Written}
 use Rattle.prune.specs.Says.{Measurable}
@@ -31,7 +31,7 @@ all-fresh P seen (c ∷ cs) a = go (isIn (c .id) seen) (all-fresh P seen cs (a .
 
 all-candidates : (P : Item → Type 0) (node : ℕ) (l : List Item) → All P l → All P (candidates node l)
 unfolding candidates
-all-candidates P node l a = all-fresh P (node ∷ []) (take cut (sort nearer l)) (all-take P cut (sort nearer l) (all-sort P l a))
+all-candidates P node l a = all-fresh P (node ∷ []) (take cut (sort nearer l)) (all-take P cut (sort nearer l) (all-sort nearer P l a))
 
 pub as-pool : {dim : ℕ} {vectors ids dists : List ℕ} → Measurable dim vectors ids dists → Pool ids dists
 as-pool m = record { same = m .same; small = m .small }

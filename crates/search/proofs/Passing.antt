@@ -2,7 +2,7 @@
 -- walk's room lies within the stated room, so all that it wrote is wiped, and what lies beyond is as it was lent.
 use mathlib.Core.Path.{_≡_, refl, sym, ap, _∙_, subst}
 use mathlib.Core.Bool.{false}
-use mathlib.Core.List.{List, _++_}
+use mathlib.Core.List.{List}
 use Prim.Native.Nat.{ℕ, _-_, _≤_, min, max, zero-le}
 use native.Mathlib.Nat.{zero-add}
 use native.Mathlib.Omega.{arith}
@@ -16,6 +16,7 @@ use Rattle.definition.specs.declared.Answer.{Answer}
 use Rattle.definition.specs.Outcome.{answer, searchDone}
 use Rattle.definition.specs.Refusals.{SearchCall, searchWords, mostAnswers}
 use Rattle.laws.specs.Parts.{part, Within, within-wider, within-trans}
+use Rattle.laws.specs.Filled.{cleared-same}
 use Rattle.laws.specs.Cleaned.{length-cleaned}
 use Rattle.scratch.specs.Lent.{Lent, lent}
 use Rattle.scratch.specs.Layout.{searchEnd, searchFloatsEnd}
@@ -25,12 +26,9 @@ use Rattle.greedy.specs.declared.Plan.{Plan}
 use Rattle.greedy.specs.declared.Walked.{Walked}
 use Rattle.greedy.specs.Scratch.{Ground, walkOf, walkEnd, Room, Walks}
 use Rattle.accepted.specs.Search.{SearchAccepted as Accepted}
-use Rattle.search.specs.Answering.{Pairs, pairs, Listed, Wiped, stateOf, found-count, found-ids, found-dists}
+use Rattle.listing.specs.Listed.{Pairs, pairs, Listed}
+use Rattle.search.specs.Answering.{Wiped, stateOf, found-count, found-ids, found-dists}
 use Rattle.search.specs.Statement.{outOf, Searched}
-
-cleared-beyond : {A : Type 0} (z : A) (room : ℕ) (l₀ l : List A) → drop room l ≡ drop room l₀ → cleared z room l ≡ cleared z room l₀
-unfolding cleared
-cleared-beyond {A} z room l₀ l e = ap (λ (m : List A). replicate room z ++ m) e
 
 -- the plan of the walk, whose beam is b
 abbrev pub planOf : SearchCall → ℕ → Plan
@@ -104,7 +102,7 @@ module _ (c : SearchCall) (a : Accepted c) (table : List ℕ) (table-is : c .tab
         done-is =
             rw (
               found-count c keys (r .work) told count count-is,
-              z .words-are ∙ cleared-beyond 0 (searchWords n) (c .words) after beyond-words,
+              z .words-are ∙ cleared-same 0 (searchWords n) after (c .words) beyond-words,
               z .floats-are,
               found-ids c keys (r .work) told count count-is outs l,
               found-dists c keys (r .work) told count count-is outs l,

@@ -3,7 +3,6 @@ use mathlib.Core.Path.{_≡_, sym, ap, _∙_}
 use mathlib.Core.List.{List, _++_, map, map-map}
 use Prim.Native.Nat.{ℕ, min, max}
 use native.Mathlib.Omega.{arith}
-use lib.Ieee.{Float}
 use lib.ListN.{length, take, drop, length-take, length-map}
 use lib.Seq.{take-take}
 use Rattle.definition.specs.Lists.{over, cleared}
@@ -19,24 +18,8 @@ use Rattle.laws.specs.Backwards.{rev, length-rev, map-rev, map-take, take-least
 use Rattle.scratch.specs.Lent.{Lent}
 use Rattle.beam.specs.Keys.{idOf, distOf}
 use Rattle.kept.specs.Says.{Tells}
+use Rattle.listing.specs.Listed.{Pairs, pairs, floatOf, Listed}
 use Rattle.search.specs.Listing.{sort-desc}
-
--- the two outputs
-pub record Pairs : Type 0 where
-  pub ids : List ℕ
-  pub dists : List Float
-
-abbrev pub pairs : List ℕ → List Float → Pairs
-pairs ids dists = record { ids = ids; dists = dists }
-
--- the distance that a key holds, as an answer gives it
-abbrev pub floatOf : ℕ → Float
-floatOf key = whole (distOf key)
-
--- what the first `count` keys hold, over the front of the outputs
-pub record Listed (keys : List ℕ) (count : ℕ) (before after : Pairs) : Type 0 where
-  pub ids-are : after .ids ≡ take count (map idOf keys) ++ drop count (before .ids)
-  pub dists-are : after .dists ≡ take count (map floatOf keys) ++ drop count (before .dists)
 
 -- the stated room is zero, what lies beyond it untouched
 pub record Wiped (n : ℕ) (before after : Lent) : Type 0 where

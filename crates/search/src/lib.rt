@@ -11,7 +11,7 @@ ghost use Rattle.scratch.specs.Lent.{lent};
 ghost use Rattle.scratch.specs.Layout.{searchEnd, searchFloatsEnd};
 ghost use Rattle.accepted.specs.Search.{SearchAccepted as Accepted};
 ghost use Rattle.checks_number.specs.SearchNumber.{callOf};
-ghost use Rattle.search.specs.Answering.{pairs, Listed, Wiped};
+ghost use Rattle.search.specs.Answering.{Wiped};
 ghost use Rattle.search.specs.Statement.{outOf, Searched};
 
 // At least 1.
@@ -22,21 +22,6 @@ fn raised(beam: usize) -> usize
         return 1;
     }
     beam
-}
-
-// The best `count` that the keys of a walk hold, over the front of the two outputs. A distance becomes an f32 here and nowhere before; a cast would ask that it
-// is small, the nearest f32 asks nothing.
-fn list_answers(keys: &[u64], count: usize, ids: &mut [u32], dists: &mut [f32])
-    requires { ⌜ (count ≤ length (now keys)) × (count ≤ length (now ids)) × (count ≤ length (now dists)) ⌝ }
-    ensures { λ _. ⌜ Listed (now (keys .entry)) count (pairs (now (ids .entry)) (now (dists .entry))) (pairs (now (ids .exit)) (now (dists .exit))) ⌝ }
-{
-    let mut i = 0;
-    while i < count {
-        let key = keys[i];
-        ids[i] = beam::id_of(key);
-        dists[i] = std::num::nearest_u32_to_f32(beam::dist_of(key));
-        i += 1;
-    }
 }
 
 // The stated room becomes zero.
@@ -85,7 +70,7 @@ pub fn lookup_accepted(
     scratch::clear_words(&mut words[0..n]);
     let walked = greedy::greedy(words, &mut keys, vectors, query, table, p, 1, start);
     let count = laws::least(k, walked.work);
-    list_answers(&keys, count, ids, dists);
+    listing::list_answers(&keys, count, ids, dists);
     wipe(words, floats, n);
     answers::found(count)
 }

@@ -3,7 +3,8 @@ use mathlib.Core.Path.{_≡_}
 use Prim.Native.Nat.{_+_, _-_, _≤_}
 use native.Mathlib.Omega.{arith}
 use lib.ListN.{drop}
-use Rattle.metric.specs.Stretches.{total, total-from, total-end}
+use Rattle.definition.specs.Lists.{total}
+use Rattle.metric.specs.Stretches.{total-from, total-end}
 use borrow.Author.Needs.{needs}
 use Rattle.metric.proofs.total.Statement.{statement}
 use Rattle.metric.proofs.total.Tie as tie

@@ -1,5 +1,5 @@
 -- `wipe`. The two fronts that are cleared are the stated room.
-use Rattle.search.proofs.Copying.{wiped}
+use Rattle.search.proofs.Wiping.{wiped}
 use borrow.Author.Needs.{needs}
 use Rattle.search.proofs.wipe.Statement.{statement}
 use Rattle.search.proofs.wipe.Tie as tie

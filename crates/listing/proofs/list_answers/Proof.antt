@@ -5,10 +5,10 @@ use native.Mathlib.Omega.{arith}
 use borrow.Author.Needs.{needs}
 use Rattle.definition.specs.Metric.{whole}
 use Rattle.beam.specs.Keys.{idOf}
-use Rattle.search.specs.Answering.{floatOf}
-use Rattle.search.proofs.Copying.{Copied, copy-start, copy-step, copy-end}
-use Rattle.search.proofs.list_answers.Statement.{statement}
-use Rattle.search.proofs.list_answers.Tie as tie
+use Rattle.listing.specs.Listed.{floatOf}
+use Rattle.listing.proofs.Copying.{Copied, copy-start, copy-step, copy-end}
+use Rattle.listing.proofs.list_answers.Statement.{statement}
+use Rattle.listing.proofs.list_answers.Tie as tie
 
 abbrev Inv-loop : tie.InvT-loop
 Inv-loop keys count ids₀ dists₀ i₀ ids dists i = (i ≤ count) × Copied idOf keys ids₀ i ids × Copied floatOf keys dists₀ i dists

@@ -1,17 +1,11 @@
--- A slice written from the front with what the keys hold: each turn of the loop writes one place more. And two fronts that were cleared, which are the stated
--- room.
+-- A slice written from the front with what the keys hold: each turn of the loop writes one place more.
 use mathlib.Core.Path.{_≡_, refl, sym, ap, _∙_}
 use mathlib.Core.List.{List, _++_, map}
 use Prim.Native.Nat.{ℕ, _+_, _<_}
 use native.Mathlib.Omega.{arith}
 use lib.ListN.{length, getD, take, drop, set, length-set, length-map}
-use Rattle.definition.specs.Refusals.{searchWords, searchFloats}
 use Rattle.laws.specs.Mapped.{map-at}
 use Rattle.laws.specs.Writing.{copy-step as step}
-use Rattle.scratch.specs.Lent.{Lent}
-use Rattle.scratch.specs.Layout.{searchEnd, searchFloatsEnd}
-use Rattle.scratch.specs.Clear.{FrontClear}
-use Rattle.search.specs.Answering.{Wiped}
 
 -- i places of the output are written, with f of the keys
 pub record Copied {A : Type 0} (f : ℕ → A) (keys : List ℕ) (old : List A) (i : ℕ) (now : List A) : Type 0 where
@@ -35,9 +29,3 @@ copy-step {A} f keys old i now v h k e c =
 pub copy-end : {A : Type 0} (f : ℕ → A) (keys : List ℕ) (old : List A) (i : ℕ) (now : List A) → Copied f keys old i now → (count : ℕ) → i ≡ count
     → now ≡ take count (map f keys) ++ drop count old
 copy-end f keys old i now c count q = c .is ∙ ap (λ (m : ℕ). take m (map f keys) ++ drop m old) q
-
--- the two fronts are the stated room
-pub wiped : (n : ℕ) (before after : Lent) → FrontClear (searchEnd n) (searchFloatsEnd n) (before .words) (before .floats) (after .words) (after .floats)
-    → Wiped n before after
-unfolding searchWords searchFloats
-wiped n before after c = record { words-are = c .words-are; floats-are = c .floats-are }

@@ -1,0 +1,2 @@
+-- Answers written from keys.
+pub mod Listed
