@@ -31,7 +31,7 @@ ghost use Rattle.checks_number.specs.BuildNumbers.{BatchNumbered, OpenNu
 ghost use Rattle.checks_number.specs.MedoidNumber.{MedoidNumbered};
 
 // 1 and 2, which most calls begin with.
-fn entries_number(n: usize, dim: usize, vectors: &[u8]) -> u32
+pub fn entries_number(n: usize, dim: usize, vectors: &[u8]) -> u32
     ensures { λ r. ⌜ r ≡ numberOf (entryTests n dim (now (vectors .entry))) ⌝ }
 {
     if bad_dim(dim) {
@@ -66,8 +66,8 @@ fn params_number(n: usize, dim: usize, vectors: &[u8], params: Params, start: u3
     0
 }
 
-// 1 to 6, which a search and a lookup begin with.
-fn limits_number(
+// 1 to 6, which a search, a lookup and a report begin with.
+pub fn limits_number(
     n: usize,
     dim: usize,
     vectors: &[u8],

@@ -6,11 +6,12 @@
 use definition::Answer;
 use definition::Candidate;
 use definition::Params;
+use definition::Report;
 use draws::Stepped;
 ghost use mathlib.Core.Path.{_≡_};
 ghost use Rattle.definition.specs.Defaults.{defaults};
 ghost use Rattle.definition.specs.Outcome.{distanceOut, medoidOut, fitOut, BatchMeets, OpenMeets, CloseMeets, BuildMeets};
-ghost use Rattle.definition.specs.Outcome.{SearchMeets, LookupMeets, RecordsMeets};
+ghost use Rattle.definition.specs.Outcome.{SearchMeets, LookupMeets, RecordsMeets, ExhaustiveMeets, ReportMeets};
 ghost use Rattle.draws.specs.Says.{DrawSays, RowsSays, SeedsSays, OrderSays, PivotsSays};
 
 // The build parameters with the four defaults of 000. No number.
@@ -221,6 +222,58 @@ pub extern "C" fn fjalgrout_fit(n: usize, degree: usize, table: &[u32]) -> Answe
     ensures { λ r. ⌜ r ≡ fitOut (record { n = n; degree = degree; table = now (table .entry) }) ⌝ }
 {
     search::fit(n, degree, table)
+}
+
+// 1/13. The k nearest of all entries. Numbers 1, 2, 10, 11, 14.
+#[no_mangle]
+pub extern "C" fn fjalgrout_exhaustive(
+    n: usize,
+    dim: usize,
+    vectors: &[u8],
+    k: usize,
+    query: &[u8],
+    ids: &mut [u32],
+    dists: &mut [f32],
+) -> Answer
+    ensures { λ r. ⌜ ExhaustiveMeets
+        (record { n = n; dim = dim; vectors = now (vectors .entry); k = k; query = now (query .entry); ids = now (ids .entry); dists = now (dists .entry) })
+        (record { answer = r; ids = now (ids .exit); dists = now (dists .exit) }) ⌝ }
+{
+    exhaustive::exhaustive(n, dim, vectors, k, query, ids, dists)
+}
+
+// 1/13. How many of the nearest a search of each query brings. Numbers 1, 2, 3, 4, 6, 8, 10, 11, 14.
+#[no_mangle]
+pub extern "C" fn fjalgrout_report(
+    n: usize,
+    dim: usize,
+    vectors: &[u8],
+    degree: usize,
+    beam: usize,
+    k: usize,
+    start: u32,
+    table: &[u32],
+    queries: &[u8],
+    words: &mut [u32],
+    floats: &mut [f32],
+) -> Report
+    ensures { λ r. ⌜ ReportMeets
+        (record { n = n; dim = dim; vectors = now (vectors .entry); degree = degree; beam = beam; k = k; start = start; table = now (table .entry); queries = now (queries .entry); words = now (words .entry); floats = now (floats .entry) })
+        (record { report = r; words = now (words .exit); floats = now (floats .exit) }) ⌝ }
+{
+    recall::report(
+        n,
+        dim,
+        vectors,
+        degree,
+        beam,
+        k,
+        start,
+        table,
+        queries,
+        words,
+        floats,
+    )
 }
 
 // Part 9. A search, and its answers once more as a run of records. Numbers 1, 2, 3, 4, 6, 8, 10, 11.

@@ -6,7 +6,7 @@ use mathlib.Core.List.{List, [], _∷_, List·Memᴰ as Mem, List·Memᴰ·not-n
 use Prim.Native.Nat.{ℕ, _+_, _*_, _≤_}
 use native.Mathlib.Omega.{arith}
 use Rattle.definition.specs.Prune.{cut}
-use Rattle.definition.specs.Refusals.{searchWords, buildWords, buildFloats}
+use Rattle.definition.specs.Refusals.{searchWords, searchFloats, buildWords, buildFloats, reportWords, reportFloats}
 
 -- The greatest beam: as many keys a walk has
 abbrev pub mostBeam : ℕ
@@ -71,12 +71,18 @@ freshRowAt n p = 6 * n + 16384 + 64 * p
 abbrev pub freshEnd : ℕ → ℕ
 freshEnd n = 6 * n + 32768
 
--- where the room of a search ends, and the floats of a batch: what of it no region has is spare
+-- where the room of a search ends, that of a report, and the floats of a batch: what of it no region has is spare
 abbrev pub searchEnd : ℕ → ℕ
 searchEnd n = 2 * n + 256
 
 abbrev pub searchFloatsEnd : ℕ → ℕ
 searchFloatsEnd n = n + 256
+
+abbrev pub reportEnd : ℕ → ℕ
+reportEnd n = 2 * n + 768
+
+abbrev pub reportFloatsEnd : ℕ → ℕ
+reportFloatsEnd n = n + 768
 
 abbrev pub floatsEnd : ℕ → ℕ
 floatsEnd n = 4 * n + 1024
@@ -130,6 +136,15 @@ module _ (n : ℕ) where
   pub search-words-filled : Fills 0 searchWordRegions (searchWords n)
   unfolding searchWords Fills
   search-words-filled = (refl, (omega arith, (omega arith, omega arith)))
+
+  -- a report lends its searches the front of its room, and the rest is spare
+  pub report-words-end : reportEnd n ≡ reportWords n
+  unfolding reportWords searchWords
+  report-words-end = omega arith
+
+  pub report-floats-end : reportFloatsEnd n ≡ reportFloats n
+  unfolding reportFloats searchFloats
+  report-floats-end = omega arith
 
   pub fresh-words-filled : Fills 0 freshWordRegions (buildWords n)
   unfolding buildWords Fills

@@ -4,7 +4,7 @@ ghost use Prim.Native.Nat.{_+_, _*_, _≤_, _<_};
 ghost use lib.ListN.{length, replicate};
 ghost use lib.Ieee.{ofBits, binary32};
 ghost use Rattle.scratch.specs.Layout.{visitedAt, visitedDistsAt, poolAt, stampsAt, poolDistsAt, poolEnd, linksAt, linksEnd};
-ghost use Rattle.scratch.specs.Layout.{freshAt, freshRowAt, freshEnd, searchEnd, searchFloatsEnd, floatsEnd};
+ghost use Rattle.scratch.specs.Layout.{freshAt, freshRowAt, freshEnd, searchEnd, searchFloatsEnd, reportEnd, reportFloatsEnd, floatsEnd};
 ghost use Rattle.scratch.specs.Clear.{FrontClear, RoomClear};
 
 // The slack of the greatest degree: no row of a table has more words.
@@ -103,6 +103,21 @@ pub fn search_floats_end(n: usize) -> usize
     ensures { λ r. ⌜ r ≡ searchFloatsEnd n ⌝ }
 {
     n + 256
+}
+
+// Where the room of a report ends, in words and in floats.
+pub fn report_end(n: usize) -> usize
+    requires { ⌜ n ≤ 65536 ⌝ }
+    ensures { λ r. ⌜ r ≡ reportEnd n ⌝ }
+{
+    2 * n + 768
+}
+
+pub fn report_floats_end(n: usize) -> usize
+    requires { ⌜ n ≤ 65536 ⌝ }
+    ensures { λ r. ⌜ r ≡ reportFloatsEnd n ⌝ }
+{
+    n + 768
 }
 
 // Where the room of a batch, close or whole build ends, in words and in floats.

@@ -1,0 +1,2 @@
+-- A distance worked out as far as is needed.
+pub mod Within
