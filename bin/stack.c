@@ -139,6 +139,19 @@ static void lookup(void) {
 
 static void fit(void) { number = fjalgrout_fit(w.n, w.params.degree, w.opening, fjalgrout_closed_words(w.n, w.params.degree)).number; }
 
+static void exhaustive(void) {
+    number = fjalgrout_exhaustive(w.n, w.dim, w.vectors, w.n * w.dim, FJALGROUT_MOST_K, w.vectors, w.dim, w.ids, FJALGROUT_MOST_K, w.dists, FJALGROUT_MOST_K)
+                 .number;
+}
+
+/* Of four queries, the first four entries. */
+static void report(void) {
+    number = fjalgrout_report(w.n, w.dim, w.vectors, w.n * w.dim, w.params.degree, w.params.beam, FJALGROUT_MOST_K, w.start, w.opening,
+                              fjalgrout_closed_words(w.n, w.params.degree), w.vectors, 4 * w.dim, w.words, fjalgrout_report_words(w.n), w.floats,
+                              fjalgrout_report_floats(w.n))
+                 .number;
+}
+
 static void records(void) {
     number = fjalgrout_records(w.n, w.dim, w.vectors, w.n * w.dim, w.params.degree, w.params.beam, FJALGROUT_MOST_BEAM, w.start, w.opening,
                                fjalgrout_closed_words(w.n, w.params.degree), w.vectors, w.dim, w.words, fjalgrout_search_words(w.n), w.floats,
@@ -165,6 +178,7 @@ static struct line lines[] = {
     {"close", close_rows, LIMIT, 0},       {"build", build, LIMIT, 0},   {"search", search, LIMIT_SEARCH, 0}, {"records", records, LIMIT_SEARCH, 0},
     {"draw", draw, LIMIT, 0},              {"rows", rows, LIMIT, 0},     {"seeds", seeds, LIMIT, 0},          {"order", order, LIMIT, 0},
     {"pivots", pivots, LIMIT, 0},          {"defaults", defaults, LIMIT, 0}, {"lookup", lookup, LIMIT_SEARCH, 0}, {"fit", fit, LIMIT, 0},
+    {"exhaustive", exhaustive, LIMIT, 0},  {"report", report, LIMIT, 0},
 };
 enum { LINES = sizeof lines / sizeof lines[0] };
 
@@ -197,6 +211,7 @@ static void draws(void) {
 static void whole(void) {
     draws();
     one("defaults", 0), one("distance", 0), one("medoid", 0), one("search", 0), one("lookup", 0), one("fit", 0), one("records", 0);
+    one("exhaustive", 0), one("report", 0);
     one("open", 0), one("batch", 0), one("close", 0), one("build", 0);
     one("close", 0), one("batch", 0);
 }
@@ -205,18 +220,20 @@ static void whole(void) {
 static void full(void) {
     draws();
     one("medoid", 0), one("search", 0), one("lookup", 0), one("fit", 0), one("records", 0), one("open", 0), one("close", 0);
+    one("exhaustive", 0), one("report", 0);
     by("batch", batch_empty, 0);
     w.words_count--;
     one("batch", 10), one("build", 10), one("close", 10);
     w.order[w.n - 1] = w.order[0];
     one("build", 9);
     w.opening[w.n * w.params.degree - 1] = (uint32_t)w.n;
-    one("build", 8), one("open", 8), one("search", 8), one("fit", 8), one("records", 8), one("lookup", 0);
+    one("build", 8), one("open", 8), one("search", 8), one("fit", 8), one("records", 8), one("lookup", 0), one("report", 8);
 }
 
 static void refused(void) {
     w.n = 0;
     one("medoid", 2), one("batch", 2), one("open", 2), one("close", 2), one("build", 2), one("search", 2), one("lookup", 2), one("fit", 2), one("records", 2);
+    one("exhaustive", 2), one("report", 2);
     one("rows", 2), one("seeds", 2), one("order", 2), one("pivots", 2);
     w.dim = 0;
     one("distance", 1);
@@ -235,7 +252,7 @@ int main(void) {
     refused();
     for (size_t i = 0; i < LINES; i++) {
         int over = lines[i].limit < lines[i].most;
-        printf("%-8s %6zu%s\n", lines[i].name, lines[i].most, over ? "  above its limit" : "");
+        printf("%-10s %6zu%s\n", lines[i].name, lines[i].most, over ? "  above its limit" : "");
         failures += over;
     }
     return failures != 0;

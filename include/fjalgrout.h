@@ -19,15 +19,17 @@
  *    8  a table, also one to be written, has the wrong length, or an entry of one that is read breaks its rule
  *    9  a batch over 256 nodes, with a repeat or an id not below n; or an order that is no permutation of 0..n-1
  *   10  scratch, or an output that is no table, too short
- *   11  query length differs from dim; for distance, two vectors of unequal length
+ *   11  query length differs from dim; queries whose bytes are no multiple of dim, or over 65,535 of them; for distance, two vectors of unequal length
  *   12  pivots: none, over 8, or one not below n
+ *   14  k is 0 or above 256, for exhaustive and report alone
+ * (13 is the program seek's.)
  *
  * A closed table has n x degree words, a wide table n x slack words. Build rule for a row: distinct ids below n, not its own, then only padding.
- * Search rule: every word is padding or an id below n. Batch, open, close and build read tables under the build rule; search, records and fit under the
- * search rule; lookup under none.
+ * Search rule: every word is padding or an id below n. Batch, open, close and build read tables under the build rule; search, records, report and fit under
+ * the search rule; lookup under none.
  *
- * Stack that a call needs, in bytes, as bin/stack measures it: batch and build 27,600, open and close 17,600, lookup, search and records 3,900, every other call
- * 200.
+ * Stack that a call needs, in bytes, as bin/stack measures it: batch and build 27,600, open and close 17,600, report 7,800, lookup, search and records 3,900,
+ * exhaustive 2,400, every other call 200.
  * bin/stack fails where one needs more than 32 KiB, or a search 4 KiB. No call uses the heap.
  */
 #ifndef FJALGROUT_H
@@ -51,9 +53,11 @@ extern "C" {
 #define FJALGROUT_MOST_EXTRA 16
 #define FJALGROUT_MOST_NODES 256
 #define FJALGROUT_MOST_PIVOTS 8
+#define FJALGROUT_MOST_K 256
+#define FJALGROUT_MOST_QUERIES 65535
 
-/* What every call returns. A refusal has its number and every other field 0. On success search gives its answer count, medoid its id, distance its
- * value, a single draw its draw; every other such field is 0. */
+/* What every call but report returns. A refusal has its number and every other field 0. On success a search, exhaustive too, gives its answer count, medoid
+ * its id, distance its value, a single draw its draw; every other such field is 0. */
 typedef struct {
     uint32_t number;
     size_t count;
@@ -82,6 +86,17 @@ typedef struct {
     fjalgrout_answer answer;
 } fjalgrout_stepped;
 
+/* What report returns: how many queries there were; how many entries were asked for, min(k, n) by each; how many of these, the true nearest, the searches
+ * brought; and for how many queries they brought all. A refusal has its number and every other field 0. The tag stays, as with `struct stat`: the call has
+ * the same name. */
+struct fjalgrout_report {
+    uint32_t number;
+    size_t queries;
+    size_t asked;
+    size_t found;
+    size_t whole;
+};
+
 /* a x b + c; SIZE_MAX where that is no size_t, as it is for arguments that every call refuses. */
 static inline size_t fjalgrout_saturated(size_t a, size_t b, size_t c) { return b != 0 && a > (SIZE_MAX - c) / b ? SIZE_MAX : a * b + c; }
 
@@ -103,6 +118,13 @@ static inline size_t fjalgrout_most_answers(size_t beam, size_t k) {
     size_t most = beam < 1 ? 1 : beam;
     return k < most ? k : most;
 }
+
+/* The answers of an exhaustive search, and so the room that each of its outputs must have: min(k, n). */
+static inline size_t fjalgrout_most_nearest(size_t n, size_t k) { return k < n ? k : n; }
+
+/* Room for a report, left zero likewise: a search's, and 512 more of each kind. */
+static inline size_t fjalgrout_report_words(size_t n) { return fjalgrout_saturated(n, 2, 768); }
+static inline size_t fjalgrout_report_floats(size_t n) { return fjalgrout_saturated(n, 1, 768); }
 
 /* The pivots that a draw of them writes: min(8, n). */
 static inline size_t fjalgrout_most_pivots(size_t n) { return n < FJALGROUT_MOST_PIVOTS ? n : FJALGROUT_MOST_PIVOTS; }
@@ -160,6 +182,18 @@ fjalgrout_answer fjalgrout_lookup(size_t n, size_t dim, const uint8_t *vectors, 
 /* Fit: the number that a search would give for its table, or 0. Asked once, when a table is loaded; lookup does the rest. Numbers 2 (the limits of n),
  * 3, 8. */
 fjalgrout_answer fjalgrout_fit(size_t n, size_t degree, const uint32_t *table, size_t table_count);
+
+/* Exhaustive: the true nearest, from the distances to all n entries and with no table. min(k, n) answers by distance, then id, as ids and distances; the
+ * outputs beyond them are untouched. Each output must have room for most_nearest, min(k, n). Numbers 1, 2, 10, 11, 14. */
+fjalgrout_answer fjalgrout_exhaustive(size_t n, size_t dim, const uint8_t *vectors, size_t vectors_count, size_t k, const uint8_t *query,
+                                      size_t query_count, uint32_t *ids, size_t ids_count, float *dists, size_t dists_count);
+
+/* Report: how many of the true nearest the search brings, in whole numbers. `queries` holds up to 65,535 of them one after another, dim bytes each, and may
+ * be empty. Each is searched for, as fjalgrout_search does with this table, start, beam and k, and then exhaustively; an answer is found where its id is
+ * among the nearest. Room: report_words, report_floats. Numbers 1, 2, 3, 4, 6, 8, 10, 11, 14. */
+struct fjalgrout_report fjalgrout_report(size_t n, size_t dim, const uint8_t *vectors, size_t vectors_count, size_t degree, size_t beam, size_t k,
+                                         uint32_t start, const uint32_t *table, size_t table_count, const uint8_t *queries, size_t queries_count,
+                                         uint32_t *words, size_t words_count, float *floats, size_t floats_count);
 
 /* The same search, and its answers once more as a run of records, best first; records beyond the answers are untouched. The run, too, must have room
  * for most_answers records. Numbers 1, 2, 3, 4, 6, 8, 10, 11. */

@@ -3,6 +3,7 @@ use crate::cases::*;
 use crate::lent::{pattern, reads, with, Lent};
 use crate::must;
 use crate::ours::{self, slack, Answer, Candidate, Params, DONE};
+use crate::recall;
 use crate::tally::{note, note_if};
 use diskann::probe;
 
@@ -150,6 +151,82 @@ pub fn lookup(r: &mut Rng, n: usize) {
     if lawful {
         search_on(r, &d, &table, Call::Search);
     }
+}
+
+fn note_asked(n: usize, k: usize) {
+    note_if(k == 1, "k 1");
+    note_if(k == 256, "k 256");
+    note_if(k == n, "k = n");
+    note_if(k > n, "k above n");
+    note_if(k < n, "k below n");
+}
+
+/// The k nearest of all entries, beside all distances sorted and cut.
+pub fn exhaustive(r: &mut Rng, n: usize) {
+    let d = data_for_all(r, n);
+    let (n, dim) = (d.n, d.dim);
+    let (k, query) = (nearest_asked(r, n), query(r, &d));
+    let all = recall::nearest(dim, &d.vectors, n, &query);
+    note_limits(&d);
+    note_asked(n, k);
+    note_if(all.windows(2).take(k).any(|w| w[0].1 == w[1].1), "equal distances among the nearest");
+    note_if(k < n && all[k - 1].1 == all[k].1, "equal distances at the cut");
+    let (want_ids, want_dists): (Vec<u32>, Vec<f32>) = recall::nearest(dim, &d.vectors, k, &query).into_iter().unzip();
+    let more = r.below(3) * MORE;
+    let (mut ids, mut dists) = (pattern(r, k.min(n) + more), pattern(r, k.min(n) + more));
+    let call = ours::Exhaustive { n, dim, vectors: &d.vectors, k, query: &query };
+    let got = reads(&[&d.vectors, &query], &[], || ours::exhaustive(call, ids.lend(), dists.lend()));
+    must(ours::same(got, Answer { count: k.min(n), ..DONE }), "exhaustive: answer");
+    must(ids.begins(&want_ids) && dists.begins(&want_dists), "exhaustive: the nearest, and nothing beyond them");
+}
+
+/// A table that leads far: the rows of `searched`, or rows that each name the next entry, so that a search finds its way.
+fn led(r: &mut Rng, d: &Data) -> Vec<u32> {
+    let (n, degree) = (d.n, d.params.degree);
+    let mut table = searched(r, n, degree);
+    if r.below(2) == 0 {
+        (0..n).for_each(|i| table[i * degree] = ((i + 1) % n) as u32);
+    }
+    table
+}
+
+/// How many of the nearest a search of each query brings, beside 000's own answers and all distances sorted and cut.
+pub fn report(r: &mut Rng, n: usize) {
+    let d = data_for_all(r, n);
+    let (n, dim, degree, start) = (d.n, d.dim, d.params.degree, d.start);
+    let table = led(r, &d);
+    let k = nearest_asked(r, n);
+    let beam = match r.below(6) {
+        0 => 0,
+        1 => 256,
+        2 => k,
+        3 => k - 1,
+        _ => 1 + r.below(40),
+    };
+    let count = match r.below(6) {
+        0 => 0,
+        1 => 1,
+        _ => 2 + r.below(if n > 200 { 8 } else { 16 }),
+    };
+    let queries: Vec<u8> = (0..count).flat_map(|_| query(r, &d)).collect();
+    let call = ours::Recall { n, dim, vectors: &d.vectors, degree, beam, k, start, table: &table, queries: &queries };
+    let hits = recall::hits(call);
+    let want = recall::report(call, &hits);
+    note_limits(&d);
+    note_asked(n, k);
+    note_if(beam == 0, "search beam 0");
+    note_if(beam == 256, "search beam 256");
+    note_if(beam < k, "a beam below k");
+    note_if(count == 0, "no queries");
+    note_if(count == 1, "one query");
+    note_if(want.whole > 0, "a query with all found");
+    note_if(hits.contains(&0), "a query with none found");
+    note_if(hits.iter().any(|h| h + 1 == k.min(n)), "a query with one missing");
+    let more = r.below(3) * MORE;
+    let (mut words, mut floats) = (pattern(r, 2 * n + 768 + more), pattern(r, n + 768 + more));
+    let got = reads(&[&d.vectors, &queries], &[&table], || ours::report(call, words.lend(), floats.lend()));
+    must(got == want, "report: the four numbers");
+    must(words.cleared(2 * n + 768) && floats.cleared(n + 768), "report: room");
 }
 
 pub fn batch(r: &mut Rng, n: usize) {

@@ -8,6 +8,7 @@ mod accepted;
 mod cases;
 mod lent;
 mod ours;
+mod recall;
 mod refused;
 mod tally;
 
@@ -30,7 +31,7 @@ struct Kind {
     large: bool,
 }
 
-const KINDS: [Kind; 19] = [
+const KINDS: [Kind; 23] = [
     Kind { name: "distance", run: accepted::distance, large: false },
     Kind { name: "medoid", run: accepted::medoid, large: true },
     Kind { name: "search", run: accepted::search, large: true },
@@ -50,6 +51,10 @@ const KINDS: [Kind; 19] = [
     Kind { name: "lookup", run: accepted::lookup, large: true },
     Kind { name: "lookup refused", run: refused::lookup, large: false },
     Kind { name: "fit", run: refused::fit, large: true },
+    Kind { name: "exhaustive", run: accepted::exhaustive, large: true },
+    Kind { name: "exhaustive refused", run: refused::exhaustive, large: false },
+    Kind { name: "report", run: accepted::report, large: true },
+    Kind { name: "report refused", run: refused::report, large: false },
 ];
 
 /// A case's number holds all that decides it: the run's seed, the kind, whether it is large, and its place.

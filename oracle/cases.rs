@@ -162,6 +162,35 @@ pub fn data(r: &mut Rng, n: usize) -> Data {
     Data { n, dim, vectors, params, start }
 }
 
+/// As `data`, for the calls that look at every entry: up to 3,000 in a large case and in some small ones more than k may be; in a third of the
+/// cases any dimension at all, with the samples of few values, so that most distances have an equal.
+pub fn data_for_all(r: &mut Rng, n: usize) -> Data {
+    let n = match r.below(12) {
+        _ if n > 200 => 250 + r.below(2_751),
+        0 => 250 + r.below(300),
+        _ => n,
+    };
+    let mut d = data(r, n);
+    if r.below(3) == 0 {
+        d.dim = 1 + r.below(256);
+        let values: Vec<u8> = (0..1 + r.below(4)).map(|_| r.next() as u8).collect();
+        d.vectors = (0..n * d.dim).map(|_| r.pick(&values)).collect();
+    }
+    d
+}
+
+/// How many of the nearest: at its limits, about n, or few.
+pub fn nearest_asked(r: &mut Rng, n: usize) -> usize {
+    match r.below(7) {
+        0 => 1,
+        1 => 256,
+        2 => n.min(256),
+        3 => (n + 1).min(256),
+        4 => 1 + r.below(256),
+        _ => 1 + r.below(n.min(20)),
+    }
+}
+
 /// What a case touches of document 01's limits.
 pub fn note_limits(d: &Data) {
     let p = d.params;

@@ -1,7 +1,7 @@
 //! What is lent to a call: filled with a pattern beforehand, with guard words behind it that are not lent, and compared afterwards.
 use crate::cases::Rng;
 use crate::must;
-use crate::ours::{Answer, Candidate};
+use crate::ours::Candidate;
 use std::hint::black_box;
 
 const GUARD: usize = 5;
@@ -90,7 +90,7 @@ impl<T: Word> Lent<T> {
 }
 
 /// A call that only reads these, which are compared too. The compiler may take a shared slice for unaltered, so it is not told that these are.
-pub fn reads(bytes: &[&[u8]], words: &[&[u32]], call: impl FnOnce() -> Answer) -> Answer {
+pub fn reads<A>(bytes: &[&[u8]], words: &[&[u32]], call: impl FnOnce() -> A) -> A {
     let before = (bytes.concat(), words.concat());
     let answer = call();
     must(before == (black_box(bytes).concat(), black_box(words).concat()), "what is only read");

@@ -6,7 +6,7 @@
 #[path = "../wrapper/src/ffi.rs"]
 mod c;
 
-pub use c::{Answer, Candidate, Params};
+pub use c::{Answer, Candidate, Params, Report};
 
 /// Field by field, the distance by its bits: `==` tells no -0.0 from 0.0.
 pub fn same(a: Answer, b: Answer) -> bool {
@@ -54,6 +54,29 @@ pub struct Search<'a> {
     pub start: u32,
     pub table: &'a [u32],
     pub query: &'a [u8],
+}
+
+#[derive(Clone, Copy)]
+pub struct Exhaustive<'a> {
+    pub n: usize,
+    pub dim: usize,
+    pub vectors: &'a [u8],
+    pub k: usize,
+    pub query: &'a [u8],
+}
+
+/// What a report reads: as a search, with queries one after another.
+#[derive(Clone, Copy)]
+pub struct Recall<'a> {
+    pub n: usize,
+    pub dim: usize,
+    pub vectors: &'a [u8],
+    pub degree: usize,
+    pub beam: usize,
+    pub k: usize,
+    pub start: u32,
+    pub table: &'a [u32],
+    pub queries: &'a [u8],
 }
 
 pub fn distance(a: &[u8], b: &[u8]) -> Answer {
@@ -194,6 +217,47 @@ pub fn lookup(s: Search, words: &mut [u32], floats: &mut [f32], ids: &mut [u32],
 
 pub fn fit(n: usize, degree: usize, table: &[u32]) -> Answer {
     unsafe { c::fjalgrout_fit(n, degree, table.as_ptr(), table.len()) }
+}
+
+pub fn exhaustive(e: Exhaustive, ids: &mut [u32], dists: &mut [f32]) -> Answer {
+    unsafe {
+        c::fjalgrout_exhaustive(
+            e.n,
+            e.dim,
+            e.vectors.as_ptr(),
+            e.vectors.len(),
+            e.k,
+            e.query.as_ptr(),
+            e.query.len(),
+            ids.as_mut_ptr(),
+            ids.len(),
+            dists.as_mut_ptr(),
+            dists.len(),
+        )
+    }
+}
+
+pub fn report(c: Recall, words: &mut [u32], floats: &mut [f32]) -> Report {
+    unsafe {
+        c::fjalgrout_report(
+            c.n,
+            c.dim,
+            c.vectors.as_ptr(),
+            c.vectors.len(),
+            c.degree,
+            c.beam,
+            c.k,
+            c.start,
+            c.table.as_ptr(),
+            c.table.len(),
+            c.queries.as_ptr(),
+            c.queries.len(),
+            words.as_mut_ptr(),
+            words.len(),
+            floats.as_mut_ptr(),
+            floats.len(),
+        )
+    }
 }
 
 pub fn records(s: Search, words: &mut [u32], floats: &mut [f32], ids: &mut [u32], dists: &mut [f32], run: &mut [Candidate]) -> Answer {

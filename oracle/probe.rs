@@ -186,6 +186,7 @@ pub fn search(s: Search) -> Vec<(u32, f32)> {
     pairs
 }
 
+#[inline]
 pub fn distance(a: &[u8], b: &[u8]) -> f32 {
     Bytes.eval(a, b)
 }

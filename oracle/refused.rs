@@ -1,9 +1,9 @@
 //! Refused calls: an accepted call with one or two faults. The lower number is returned, and nothing that was lent differs.
-//! 000 has no refusals, so what is expected here is document 01's table.
+//! 000 has no refusals, so what is expected here is document 01's table, with 14 and the queries of 11 from 1/13.
 use crate::cases::*;
 use crate::lent::{pattern, reads, with, Lent};
 use crate::must;
-use crate::ours::{self, slack, Answer, Params, DONE, PAD};
+use crate::ours::{self, slack, Answer, Params, Report, DONE, PAD};
 use crate::tally::note;
 
 /// The lowest number among the faults made so far; 0 before the first.
@@ -19,6 +19,12 @@ impl Lowest {
     fn check(&self, got: Answer, kept: bool) {
         note(format!("refused {:>2}", self.0));
         must(ours::same(got, Answer { number: self.0, ..DONE }), "refusal: number");
+        must(kept, "refusal: nothing lent differs");
+    }
+
+    fn check_report(&self, got: Report, kept: bool) {
+        note(format!("refused {:>2}", self.0));
+        must(got == Report { number: self.0, queries: 0, asked: 0, found: 0, whole: 0 }, "refusal: number");
         must(kept, "refusal: nothing lent differs");
     }
 }
@@ -395,6 +401,114 @@ fn any_search(r: &mut Rng, n: usize, call: Call) {
         note("a lawful table");
         refuse(Call::Search);
     }
+}
+
+/// An unlawful k. Above n it asks for no more room than n, and 0 asks for none.
+fn bad_k(r: &mut Rng) -> usize {
+    r.pick(&[0, 257, 65_536, usize::MAX])
+}
+
+pub fn exhaustive(r: &mut Rng, n: usize) {
+    let d = data_for_all(r, n);
+    let (n, mut k, mut query) = (d.n, nearest_asked(r, d.n), query(r, &d));
+    let mut s = shared(&d);
+    let mut low = Lowest::default();
+    let mut short = None;
+    for _ in 0..1 + r.below(2) {
+        match r.pick(&[1, 2, 10, 11, 14]) {
+            10 => {
+                short = Some(r.below(2));
+                low.fault(10);
+            }
+            11 => {
+                query.resize(other(r, d.dim), 0);
+                low.fault(11);
+            }
+            14 => {
+                k = bad_k(r);
+                low.fault(14);
+            }
+            number => s.fault(r, number, &mut low),
+        }
+    }
+    // no output is too short for k 0
+    if short.is_some() && k == 0 {
+        k = 257;
+    }
+    let lent = |which| k.min(n) - usize::from(short == Some(which));
+    let (mut ids, mut dists) = (pattern(r, lent(0)), pattern(r, lent(1)));
+    // a fault in n alters what is asked for: then 2 comes first
+    let call = ours::Exhaustive { n: s.n, dim: s.dim, vectors: &s.vectors, k, query: &query };
+    let got = reads(&[&s.vectors, &query], &[], || ours::exhaustive(call, ids.lend(), dists.lend()));
+    low.check(got, ids.kept() && dists.kept());
+}
+
+/// Queries that are refused: a byte more or fewer, so no multiple of dim, or one more than there may be.
+fn bad_queries(r: &mut Rng, d: &Data, queries: &mut Vec<u8>, count: usize) {
+    let right = count * d.dim;
+    match r.below(16) {
+        0 if d.dim < 9 => {
+            note("65,536 queries");
+            queries.resize(65_536 * d.dim, 0);
+        }
+        _ if d.dim == 1 => queries.resize(65_536 + r.below(2), 0),
+        _ if right > 0 => queries.resize(other(r, right), 0),
+        _ => queries.resize(1 + r.below(d.dim - 1), 0),
+    }
+}
+
+pub fn report(r: &mut Rng, n: usize) {
+    let d = data_for_all(r, n);
+    let (n, degree) = (d.n, d.params.degree);
+    let mut table = searched(r, n, degree);
+    let (mut k, count) = (nearest_asked(r, n), r.below(5));
+    let mut queries: Vec<u8> = (0..count).flat_map(|_| query(r, &d)).collect();
+    let mut s = shared(&d);
+    s.params.beam = r.below(30);
+    let (mut words_len, mut floats_len) = (2 * n + 768, n + 768);
+    let mut low = Lowest::default();
+    for _ in 0..1 + r.below(2) {
+        match r.pick(&[1, 2, 3, 4, 6, 8, 10, 11, 14]) {
+            8 => {
+                let i = r.below(table.len());
+                match r.below(2) {
+                    0 if !table.is_empty() => table[i] = r.pick(&[n as u32, u32::MAX - 1]),
+                    _ => table.resize(other(r, n * degree), PAD),
+                }
+                low.fault(8);
+            }
+            10 => {
+                match r.below(2) {
+                    0 => words_len = 2 * n + r.pick(&[767, 256]),
+                    _ => floats_len = n + r.pick(&[767, 256]),
+                }
+                low.fault(10);
+            }
+            11 => {
+                bad_queries(r, &d, &mut queries, count);
+                low.fault(11);
+            }
+            14 => {
+                k = bad_k(r);
+                low.fault(14);
+            }
+            number => s.fault(r, number, &mut low),
+        }
+    }
+    let given = ours::Recall {
+        n: s.n,
+        dim: s.dim,
+        vectors: &s.vectors,
+        degree: s.params.degree,
+        beam: s.params.beam,
+        k,
+        start: s.start,
+        table: &table,
+        queries: &queries,
+    };
+    let (mut words, mut floats) = (pattern(r, words_len), pattern(r, floats_len));
+    let got = reads(&[&s.vectors, &queries], &[&table], || ours::report(given, words.lend(), floats.lend()));
+    low.check_report(got, words.kept() && floats.kept());
 }
 
 /// The number of a table: each of 2, 3 and 8 by one fault or two, and 0 by none.

@@ -209,6 +209,175 @@ static void test_fit(void) {
     CHECK(only(fjalgrout_fit(4, 2, table, 8), 0));
 }
 
+/* ---- exhaustive search: no table, and every output lent with guards behind it */
+
+struct exhausting {
+    size_t n, dim, vectors_count, k, query_count, ids_count, dists_count;
+    const uint8_t *vectors;
+    uint8_t query;
+    uint32_t ids[8];
+    float dists[8];
+};
+
+static struct exhausting all_of_the_line(uint8_t query, size_t k) {
+    struct exhausting e;
+    memset(&e, 0x5A, sizeof e), fill_floats(e.dists, sizeof e.dists);
+    e.n = 4, e.dim = 1, e.vectors_count = 4, e.k = k, e.query_count = 1, e.vectors = line, e.query = query;
+    e.ids_count = e.dists_count = fjalgrout_most_nearest(4, k);
+    return e;
+}
+
+static fjalgrout_answer exhaustive(struct exhausting *e) {
+    return fjalgrout_exhaustive(e->n, e->dim, e->vectors, e->vectors_count, e->k, &e->query, e->query_count, e->ids, e->ids_count, e->dists, e->dists_count);
+}
+
+static void nearest_at(int at, struct exhausting e, size_t count, const uint32_t *ids, const float *dists) {
+    struct exhausting want = e;
+    memcpy(want.ids, ids, count * 4), memcpy(want.dists, dists, count * sizeof(float));
+    fjalgrout_answer a = exhaustive(&e);
+    check_at(at, "done", a.number == 0 && a.count == count && a.id == 0 && a.draw == 0 && a.distance == 0 && !signbit(a.distance));
+    check_at(at, "the nearest, and nothing beyond them", memcmp(&e, &want, sizeof e) == 0);
+}
+#define NEAREST(e, count, ids, dists) nearest_at(__LINE__, e, count, ids, dists)
+
+#define EXHAUSTIVE_REFUSES(number, change) \
+    do { \
+        struct exhausting e = all_of_the_line(25, 2); \
+        change; \
+        struct exhausting before = e; \
+        CHECK(only(exhaustive(&e), number)); \
+        CHECK(memcmp(&e, &before, sizeof e) == 0); \
+    } while (0)
+
+static void test_exhaustive(void) {
+    NEAREST(all_of_the_line(25, 2), 2, ((uint32_t[]){1, 2}), ((float[]){25, 25}));
+    NEAREST(all_of_the_line(38, 2), 2, ((uint32_t[]){3, 2}), ((float[]){4, 64}));
+    /* of two that are equally near the lower id, also at the cut; k as n and above it */
+    NEAREST(all_of_the_line(25, 1), 1, ((uint32_t[]){1}), ((float[]){25}));
+    NEAREST(all_of_the_line(25, 3), 3, ((uint32_t[]){1, 2, 0}), ((float[]){25, 25, 225}));
+    NEAREST(all_of_the_line(25, 4), 4, ((uint32_t[]){1, 2, 0, 3}), ((float[]){25, 25, 225, 225}));
+    NEAREST(all_of_the_line(25, 256), 4, ((uint32_t[]){1, 2, 0, 3}), ((float[]){25, 25, 225, 225}));
+    /* the entry that a search with beam 2 misses; and outputs longer than the nearest */
+    struct exhausting e = all_of_the_line(25, 2);
+    e.vectors = bent, e.ids_count = e.dists_count = 8;
+    NEAREST(e, 2, ((uint32_t[]){3, 1}), ((float[]){0, 25}));
+
+    EXHAUSTIVE_REFUSES(1, e.dim = 0);
+    EXHAUSTIVE_REFUSES(1, e.dim = 257);
+    EXHAUSTIVE_REFUSES(2, e.n = 0);
+    EXHAUSTIVE_REFUSES(2, e.n = 65537);
+    EXHAUSTIVE_REFUSES(2, e.vectors_count = 3);
+    EXHAUSTIVE_REFUSES(2, (e.n = (size_t)1 << 63, e.dim = 2, e.vectors_count = 0));
+    EXHAUSTIVE_REFUSES(10, e.ids_count = 1);
+    EXHAUSTIVE_REFUSES(10, e.dists_count = 1);
+    EXHAUSTIVE_REFUSES(10, (e.k = 5, e.ids_count = e.dists_count = 3));
+    EXHAUSTIVE_REFUSES(11, e.query_count = 0);
+    EXHAUSTIVE_REFUSES(14, e.k = 0);
+    EXHAUSTIVE_REFUSES(14, (e.k = 257, e.ids_count = e.dists_count = 4));
+    EXHAUSTIVE_REFUSES(14, (e.k = SIZE_MAX, e.ids_count = e.dists_count = 4));
+    /* two faults: the lower number. k 0 asks for no room, k 257 for n */
+    EXHAUSTIVE_REFUSES(1, (e.dim = 0, e.k = 0));
+    EXHAUSTIVE_REFUSES(2, (e.n = 0, e.query_count = 0));
+    EXHAUSTIVE_REFUSES(10, (e.k = 257, e.ids_count = 3));
+    EXHAUSTIVE_REFUSES(11, (e.k = 0, e.query_count = 0));
+    EXHAUSTIVE_REFUSES(14, (e.k = 0, e.ids_count = e.dists_count = 0));
+}
+
+/* ---- report */
+
+struct reporting {
+    size_t n, dim, vectors_count, degree, beam, k, table_count, queries_count, words_count, floats_count;
+    uint32_t start, table[8];
+    const uint8_t *vectors, *queries;
+    uint32_t words[2 * 4 + 768 + 4];
+    float floats[4 + 768 + 4];
+};
+
+static const uint8_t line_queries[2] = {25, 38}, many_queries[65536];
+
+static struct reporting report_of_the_line(size_t beam, size_t k) {
+    struct reporting r;
+    memset(&r, 0x5A, sizeof r), fill_floats(r.floats, sizeof r.floats);
+    r.n = 4, r.dim = 1, r.vectors_count = 4, r.degree = 2, r.beam = beam, r.k = k, r.start = 0;
+    r.vectors = line, r.queries = line_queries, r.queries_count = 2, r.table_count = 8;
+    memcpy(r.table, line_rows, sizeof line_rows);
+    r.words_count = fjalgrout_report_words(4), r.floats_count = fjalgrout_report_floats(4);
+    return r;
+}
+
+static struct fjalgrout_report report(struct reporting *r) {
+    return fjalgrout_report(r->n, r->dim, r->vectors, r->vectors_count, r->degree, r->beam, r->k, r->start, r->table, r->table_count, r->queries,
+                            r->queries_count, r->words, r->words_count, r->floats, r->floats_count);
+}
+
+/* The four numbers, and the stated room left zero; nothing else differs. */
+static void reports_at(int at, struct reporting r, size_t queries, size_t asked, size_t found, size_t whole) {
+    struct reporting want = r;
+    memset(want.words, 0, 4 * fjalgrout_report_words(4)), memset(want.floats, 0, 4 * fjalgrout_report_floats(4));
+    struct fjalgrout_report a = report(&r);
+    check_at(at, "the four numbers", a.number == 0 && a.queries == queries && a.asked == asked && a.found == found && a.whole == whole);
+    check_at(at, "room left zero, and nothing else", memcmp(&r, &want, sizeof r) == 0);
+}
+#define REPORTS(r, queries, asked, found, whole) reports_at(__LINE__, r, queries, asked, found, whole)
+
+#define REPORT_REFUSES(by, change) \
+    do { \
+        struct reporting r = report_of_the_line(4, 2); \
+        change; \
+        struct reporting before = r; \
+        struct fjalgrout_report a = report(&r); \
+        CHECK(a.number == by && a.queries == 0 && a.asked == 0 && a.found == 0 && a.whole == 0); \
+        CHECK(memcmp(&r, &before, sizeof r) == 0); \
+    } while (0)
+
+static void test_report(void) {
+    /* with beam 1 only the start is found, which is not asked for; with beam 4 all */
+    REPORTS(report_of_the_line(1, 2), 2, 4, 0, 0);
+    REPORTS(report_of_the_line(0, 2), 2, 4, 0, 0);
+    REPORTS(report_of_the_line(4, 2), 2, 4, 4, 2);
+    /* k above n asks for n; a beam below k */
+    REPORTS(report_of_the_line(8, 9), 2, 8, 8, 2);
+    REPORTS(report_of_the_line(256, 256), 2, 8, 8, 2);
+    REPORTS(report_of_the_line(2, 4), 2, 8, 4, 0);
+    /* no queries; one; as many as there may be; room beyond what is asked for */
+    struct reporting r = report_of_the_line(4, 2);
+    r.queries_count = 0;
+    REPORTS(r, 0, 0, 0, 0);
+    r.queries_count = 1;
+    REPORTS(r, 1, 2, 2, 1);
+    r.queries = many_queries, r.queries_count = 65535, r.words_count += 4, r.floats_count += 4;
+    REPORTS(r, 65535, 131070, 131070, 65535);
+    /* entry 3, the nearest, is missed */
+    r = report_of_the_line(2, 2), r.vectors = bent, r.queries_count = 1;
+    REPORTS(r, 1, 2, 1, 0);
+
+    REPORT_REFUSES(1, r.dim = 0);
+    REPORT_REFUSES(1, r.dim = 257);
+    REPORT_REFUSES(2, r.n = 65537);
+    REPORT_REFUSES(2, r.vectors_count = 3);
+    REPORT_REFUSES(3, r.degree = 0);
+    REPORT_REFUSES(3, r.degree = 65);
+    REPORT_REFUSES(4, r.beam = 257);
+    REPORT_REFUSES(6, r.start = 4);
+    REPORT_REFUSES(8, r.table_count = 7);
+    REPORT_REFUSES(8, r.table[5] = 4);
+    REPORT_REFUSES(8, r.table[7] = PAD - 1);
+    REPORT_REFUSES(10, r.words_count--);
+    REPORT_REFUSES(10, r.floats_count--);
+    REPORT_REFUSES(10, (r.words_count = fjalgrout_search_words(4), r.floats_count = fjalgrout_search_floats(4)));
+    REPORT_REFUSES(11, (r.queries = many_queries, r.queries_count = 65536));
+    REPORT_REFUSES(11, (r.n = 2, r.dim = 2, r.table_count = 4, r.table[2] = r.table[3] = PAD, r.queries_count = 1));
+    REPORT_REFUSES(14, r.k = 0);
+    REPORT_REFUSES(14, r.k = 257);
+    REPORT_REFUSES(14, (r.k = SIZE_MAX, r.queries_count = 0));
+    /* two faults: the lower number */
+    REPORT_REFUSES(1, (r.dim = 0, r.k = 0));
+    REPORT_REFUSES(4, (r.beam = 257, r.start = 4));
+    REPORT_REFUSES(8, (r.table[0] = 4, r.words_count = 0));
+    REPORT_REFUSES(10, (r.words_count = 0, r.queries = many_queries, r.queries_count = 65536));
+    REPORT_REFUSES(11, (r.queries = many_queries, r.queries_count = 65536, r.k = 0));
+}
+
 /* ---- the run of records: as the search, and the run beside it */
 
 static void test_records(void) {
@@ -479,6 +648,9 @@ static void test_sizes(void) {
     CHECK(fjalgrout_build_words(largest) == 6 * largest + 32768 && fjalgrout_build_words(largest + 1) == SIZE_MAX);
     CHECK(fjalgrout_slack(SIZE_MAX) == SIZE_MAX && fjalgrout_build_words(SIZE_MAX) == SIZE_MAX && fjalgrout_build_floats(SIZE_MAX) == SIZE_MAX);
     CHECK(fjalgrout_search_words(SIZE_MAX) == SIZE_MAX && fjalgrout_search_floats(SIZE_MAX) == SIZE_MAX);
+    CHECK(fjalgrout_report_words(65536) == 131840 && fjalgrout_report_floats(65536) == 66304);
+    CHECK(fjalgrout_report_words(SIZE_MAX) == SIZE_MAX && fjalgrout_report_floats(SIZE_MAX - 767) == SIZE_MAX);
+    CHECK(fjalgrout_most_nearest(4, 3) == 3 && fjalgrout_most_nearest(4, 256) == 4 && fjalgrout_most_nearest(SIZE_MAX, SIZE_MAX) == SIZE_MAX);
     CHECK(fjalgrout_closed_words(SIZE_MAX, 2) == SIZE_MAX && fjalgrout_wide_words(2, SIZE_MAX) == SIZE_MAX);
     CHECK(fjalgrout_most_answers(SIZE_MAX, SIZE_MAX) == SIZE_MAX && fjalgrout_most_answers(0, SIZE_MAX) == 1 && fjalgrout_most_pivots(SIZE_MAX) == 8);
 }
@@ -491,6 +663,8 @@ int main(void) {
     test_search_refusals();
     test_lookup();
     test_fit();
+    test_exhaustive();
+    test_report();
     test_records();
     test_medoid();
     test_draws();

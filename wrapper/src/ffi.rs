@@ -2,8 +2,8 @@
 //! Whoever calls these ensures that every count is true and that slices lent for writing lie apart; the safe functions beside this file do.
 //! The file uses nothing else of the crate: it can also be taken in by `#[path = ".."] mod ffi;`.
 
-/// What every call returns. A refusal has its number and every other field 0. On success search gives its answer count, medoid its id, distance its
-/// value, a single draw its draw; every other such field is 0.
+/// What every call but report returns. A refusal has its number and every other field 0. On success a search, exhaustive too, gives its answer count,
+/// medoid its id, distance its value, a single draw its draw; every other such field is 0.
 #[repr(C)]
 #[derive(Clone, Copy, Debug, PartialEq)]
 pub struct Answer {
@@ -38,6 +38,18 @@ pub struct Candidate {
 pub struct Stepped {
     pub state: u64,
     pub answer: Answer,
+}
+
+/// What report returns: queries; entries asked for, min(k, n) by each; how many of these, the true nearest, the searches brought; for how many queries
+/// they brought all. A refusal has its number and every other field 0.
+#[repr(C)]
+#[derive(Clone, Copy, Debug, PartialEq)]
+pub struct Report {
+    pub number: u32,
+    pub queries: usize,
+    pub asked: usize,
+    pub found: usize,
+    pub whole: usize,
 }
 
 extern "C" {
@@ -154,6 +166,39 @@ extern "C" {
     ) -> Answer;
 
     pub fn fjalgrout_fit(n: usize, degree: usize, table: *const u32, table_count: usize) -> Answer;
+
+    pub fn fjalgrout_exhaustive(
+        n: usize,
+        dim: usize,
+        vectors: *const u8,
+        vectors_count: usize,
+        k: usize,
+        query: *const u8,
+        query_count: usize,
+        ids: *mut u32,
+        ids_count: usize,
+        dists: *mut f32,
+        dists_count: usize,
+    ) -> Answer;
+
+    pub fn fjalgrout_report(
+        n: usize,
+        dim: usize,
+        vectors: *const u8,
+        vectors_count: usize,
+        degree: usize,
+        beam: usize,
+        k: usize,
+        start: u32,
+        table: *const u32,
+        table_count: usize,
+        queries: *const u8,
+        queries_count: usize,
+        words: *mut u32,
+        words_count: usize,
+        floats: *mut f32,
+        floats_count: usize,
+    ) -> Report;
 
     pub fn fjalgrout_records(
         n: usize,

@@ -15,22 +15,25 @@
 //! | 8 | a table, also one to be written, has the wrong length, or an entry of one that is read breaks its rule |
 //! | 9 | a batch over 256 nodes, with a repeat or an id not below n; or an order that is no permutation of 0..n-1 |
 //! | 10 | scratch, or an output that is no table, too short |
-//! | 11 | query length differs from dim; for distance, two vectors of unequal length |
+//! | 11 | query length differs from dim; queries whose bytes are no multiple of dim, or over 65,535 of them; for distance, two vectors of unequal length |
 //! | 12 | pivots: none, over 8, or one not below n |
+//! | 14 | k is 0 or above 256, for [`exhaustive`] and [`report`] alone |
 //!
 //! A call checks, in rising number, those that are listed at it; the first that holds is given.
 
 pub mod ffi;
 mod generator;
+mod recall;
 mod sizes;
 
 pub use ffi::{Candidate, Params};
 pub use generator::Generator;
-pub use sizes::{build_room, most_answers, search_room, slack, Room, PADDING};
+pub use recall::{exhaustive, report, Report};
+pub use sizes::{build_room, most_answers, most_nearest, report_room, search_room, slack, Room, PADDING};
 
 use ffi::Answer;
 
-/// The number of a refused call, 1 to 12.
+/// The number of a refused call: 1 to 12, or 14.
 #[derive(Clone, Copy, Debug, PartialEq, Eq)]
 pub struct Refusal(pub u32);
 
@@ -58,7 +61,7 @@ pub struct Vectors<'a> {
     pub bytes: &'a [u8],
 }
 
-/// Scratch, lent: [`build_room`] and [`search_room`] say how much. On success that much is left zero; what lies beyond is untouched.
+/// Scratch, lent: [`build_room`], [`search_room`] and [`report_room`] say how much. On success that much is left zero; what lies beyond is untouched.
 #[derive(Debug)]
 pub struct Scratch<'a> {
     pub words: &'a mut [u32],

@@ -32,6 +32,19 @@ pub fn search_room(n: usize) -> Room {
     }
 }
 
+/// Room for a report: a search's, and 512 more of each kind.
+pub fn report_room(n: usize) -> Room {
+    Room {
+        words: n.saturating_mul(2).saturating_add(768),
+        floats: n.saturating_add(768),
+    }
+}
+
+/// The answers of an exhaustive search, and so the room that each of its two outputs must have: min(k, n).
+pub fn most_nearest(n: usize, k: usize) -> usize {
+    k.min(n)
+}
+
 /// The answers that each of a search's two outputs must have room for.
 pub fn most_answers(beam: usize, k: usize) -> usize {
     k.min(beam.max(1))

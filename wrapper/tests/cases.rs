@@ -1,9 +1,9 @@
-//! The cases of docs/01-scope.md that a public call shows, with their outcomes.
+//! The cases of docs/01-scope.md that a public call shows, with their outcomes; and those of recall, 1/13.
 
 mod lent;
 
-use fjalgrout::{batch, build, build_room, distance, medoid, slack, Generator, Params, Refusal, Scratch, PADDING};
-use lent::{line_search, vectors, Search, LINE};
+use fjalgrout::{batch, build, build_room, distance, medoid, slack, Generator, Params, Refusal, Report, Scratch, PADDING};
+use lent::{line_nearest, line_search, reported, vectors, Nearest, Search, LINE};
 
 #[test]
 fn distances() {
@@ -55,6 +55,72 @@ fn an_entry_that_is_missed() {
 fn more_asked_than_the_beam() {
     assert_eq!(bent(1, 8).answers(), Ok(vec![(0, 225.0)]));
     assert_eq!(bent(8, 8).answers(), Ok(vec![(3, 0.0), (1, 25.0), (2, 25.0), (0, 225.0)]));
+}
+
+#[test]
+fn the_nearest_of_the_line() {
+    assert_eq!(line_nearest(38, 2).answers(), Ok(vec![(3, 4.0), (2, 64.0)]));
+    assert_eq!(line_nearest(25, 2).answers(), Ok(vec![(1, 25.0), (2, 25.0)]));
+    let all = vec![(1, 25.0), (2, 25.0), (0, 225.0), (3, 225.0)];
+    // of equals at the cut the lower id; k as n, and above it
+    assert_eq!(line_nearest(25, 1).answers(), Ok(all[..1].to_vec()));
+    assert_eq!(line_nearest(25, 3).answers(), Ok(all[..3].to_vec()));
+    assert_eq!(line_nearest(25, 4).answers(), Ok(all.clone()));
+    assert_eq!(line_nearest(25, 256).answers(), Ok(all));
+    let missed = Nearest {
+        bytes: vec![10, 20, 30, 25],
+        ..line_nearest(25, 2)
+    };
+    assert_eq!(missed.answers(), Ok(vec![(3, 0.0), (1, 25.0)]));
+}
+
+/// The line with queries 25 and 38.
+fn line_report(beam: usize, k: usize) -> Search {
+    Search {
+        query: vec![25, 38],
+        ..line_search(0, beam, k)
+    }
+}
+
+fn counts(queries: usize, asked: usize, found: usize, whole: usize) -> Result<Report, Refusal> {
+    Ok(Report { queries, asked, found, whole })
+}
+
+#[test]
+fn the_report_of_the_line() {
+    // with beam 1 only the start is found, which is not asked for; with beam 4 all
+    assert_eq!(reported(&line_report(1, 2)), counts(2, 4, 0, 0));
+    assert_eq!(reported(&line_report(0, 2)), counts(2, 4, 0, 0));
+    assert_eq!(reported(&line_report(4, 2)), counts(2, 4, 4, 2));
+    // k above n asks for n; a beam below k
+    assert_eq!(reported(&line_report(8, 9)), counts(2, 8, 8, 2));
+    assert_eq!(reported(&line_report(2, 4)), counts(2, 8, 4, 0));
+    assert_eq!(reported(&bent(2, 2)), counts(1, 2, 1, 0));
+}
+
+/// No queries, and as many as there may be.
+#[test]
+fn queries_at_their_limits() {
+    let of = |count: usize| {
+        reported(&Search {
+            query: vec![25; count],
+            ..line_report(4, 3)
+        })
+    };
+    assert_eq!(of(0), counts(0, 0, 0, 0));
+    assert_eq!(of(65_535), counts(65_535, 196_605, 196_605, 65_535));
+    assert_eq!(of(65_536), Err(Refusal(11)));
+}
+
+#[test]
+fn recall_is_a_share() {
+    let recall = |beam, k| reported(&line_report(beam, k)).unwrap().recall();
+    assert_eq!((recall(4, 2), recall(2, 4), recall(1, 2)), (1.0, 0.5, 0.0));
+    let none = Search {
+        query: vec![],
+        ..line_report(1, 2)
+    };
+    assert_eq!(reported(&none).unwrap().recall(), 1.0, "nothing was asked");
 }
 
 /// Scores 900, 500, 500, 900.

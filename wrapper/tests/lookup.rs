@@ -1,9 +1,9 @@
-//! A build from drawn rows, order, seeds and pivots, and searches of the table that it leaves.
+//! A build from drawn rows, order, seeds and pivots, and searches and reports of the table that it leaves.
 
 mod lent;
 
 use fjalgrout::{distance, medoid, Generator, Params, PADDING};
-use lent::{line_build, line_search, vectors, Build, Search};
+use lent::{line_build, line_search, reported, vectors, Build, Nearest, Search};
 
 const DIM: usize = 16;
 
@@ -53,6 +53,31 @@ fn all_answers(bytes: &[u8], query: &[u8]) -> Vec<(u32, f32)> {
     answers
 }
 
+/// Some of the entries, each a little moved.
+fn queries(build: &Build) -> Vec<Vec<u8>> {
+    let moved = |entry: &[u8]| {
+        let mut query = entry.to_vec();
+        query[0] ^= 3;
+        query
+    };
+    build.bytes.chunks(DIM).step_by(37).map(moved).collect()
+}
+
+fn search_of(build: &Build, rows: &[u32], beam: usize, k: usize, query: Vec<u8>) -> Search {
+    Search {
+        n: build.n,
+        dim: DIM,
+        bytes: build.bytes.clone(),
+        degree: build.params.degree,
+        beam,
+        k,
+        start: build.start,
+        rows: rows.to_vec(),
+        query,
+        short: [0; 4],
+    }
+}
+
 #[test]
 fn the_line_is_built_and_searched() {
     let rows = line_build().table().unwrap();
@@ -74,26 +99,48 @@ fn a_built_table_finds_the_nearest() {
     let rows = build.table().unwrap();
     assert!(is_lawful(n, params.degree, &rows));
     assert_eq!(drawn_build(n, params, seed).table().unwrap(), rows, "the same draws give the same table");
-    for i in (0..n).step_by(37) {
-        let mut query = build.bytes[i * DIM..][..DIM].to_vec();
-        query[0] ^= 3;
-        let search = Search {
-            n,
-            dim: DIM,
-            bytes: build.bytes.clone(),
-            degree: params.degree,
-            beam: 64,
-            k: 5,
-            start: build.start,
-            rows: rows.clone(),
-            query: query.clone(),
-            short: [0; 4],
-        };
+    for query in queries(&build) {
+        let search = search_of(&build, &rows, 64, 5, query.clone());
         let (found, all) = (search.answers().unwrap(), all_answers(&build.bytes, &query));
         assert_eq!(found.len(), 5);
         assert!(found.windows(2).all(|w| (w[0].1, w[0].0) < (w[1].1, w[1].0)), "by distance, then id");
         assert!(found.iter().all(|answer| all.contains(answer)), "each answer has its own distance");
         assert_eq!(found[0], all[0], "the nearest");
+    }
+}
+
+/// A report's numbers are those of its searches and exhaustive searches, counted here; and an exhaustive search has the front of all answers.
+#[test]
+fn a_report_of_a_built_table() {
+    let params = Params {
+        degree: 4,
+        beam: 8,
+        extra: 1,
+        ..Params::default()
+    };
+    let build = drawn_build(400, params, 11);
+    let rows = build.table().unwrap();
+    for (beam, k) in [(1, 1), (4, 10), (10, 10), (40, 10), (256, 256)] {
+        let (mut found, mut whole) = (0, 0);
+        for query in queries(&build) {
+            let nearest = Nearest {
+                n: build.n,
+                dim: DIM,
+                bytes: build.bytes.clone(),
+                k,
+                query: query.clone(),
+                short: [0; 2],
+            };
+            let nearest = nearest.answers().unwrap();
+            assert_eq!(nearest, all_answers(&build.bytes, &query)[..k]);
+            let brought = search_of(&build, &rows, beam, k, query).answers().unwrap();
+            let hits = brought.iter().filter(|answer| nearest.contains(answer)).count();
+            found += hits;
+            whole += usize::from(hits == k);
+        }
+        let told = reported(&search_of(&build, &rows, beam, k, queries(&build).concat())).unwrap();
+        let many = queries(&build).len();
+        assert_eq!((told.queries, told.asked, told.found, told.whole), (many, many * k, found, whole));
     }
 }
 

@@ -2,8 +2,10 @@
 
 mod lent;
 
-use fjalgrout::{build_room, distance, fit, medoid, most_answers, open, search_room, slack, Generator, Params, Refusal, Room, PADDING};
-use lent::{line_build, line_search, vectors, Build, Call, Search, LINE, LINE_ROWS, LINE_WIDE};
+use fjalgrout::{
+    build_room, distance, fit, medoid, most_answers, most_nearest, open, report_room, search_room, slack, Generator, Params, Refusal, Room, PADDING,
+};
+use lent::{line_build, line_nearest, line_search, reported, vectors, Build, Call, Nearest, Search, LINE, LINE_ROWS, LINE_WIDE};
 
 #[test]
 fn distance_refuses() {
@@ -107,6 +109,71 @@ fn records_refuse() {
     assert_eq!(call.answers_in(3), Ok(vec![(3, 4.0), (2, 64.0)]));
     call.start = 4;
     assert_eq!(call.answers_in(0), Err(Refusal(6)));
+}
+
+#[test]
+fn exhaustive_refuses() {
+    let number = |change: fn(&mut Nearest)| {
+        let mut call = line_nearest(38, 2);
+        change(&mut call);
+        call.answers().map_or_else(|refusal| refusal.0, |_| 0)
+    };
+    assert_eq!(number(|_| ()), 0);
+    assert_eq!(number(|e| e.dim = 0), 1);
+    assert_eq!(number(|e| e.dim = 257), 1);
+    assert_eq!(number(|e| e.n = 0), 2);
+    assert_eq!(number(|e| e.n = 65_537), 2);
+    assert_eq!(number(|e| e.n = usize::MAX), 2);
+    assert_eq!(number(|e| e.bytes.truncate(3)), 2);
+    assert_eq!(number(|e| e.short = [1, 0]), 10);
+    assert_eq!(number(|e| e.short = [0, 1]), 10);
+    assert_eq!(number(|e| e.query.clear()), 11);
+    assert_eq!(number(|e| e.query.push(1)), 11);
+    assert_eq!(number(|e| e.k = 0), 14);
+    assert_eq!(number(|e| e.k = 257), 14);
+    assert_eq!(number(|e| e.k = usize::MAX), 14);
+    // two faults: the lower number
+    assert_eq!(number(|e| (e.dim, e.k) = (257, 0)), 1);
+    assert_eq!(number(|e| (e.n, e.query) = (0, vec![])), 2);
+    assert_eq!(number(|e| (e.short, e.query) = ([1, 0], vec![])), 10);
+    assert_eq!(number(|e| (e.k, e.short) = (257, [0, 1])), 10);
+    assert_eq!(number(|e| (e.k, e.query) = (257, vec![])), 11);
+}
+
+#[test]
+fn report_refuses() {
+    let number = |change: fn(&mut Search)| {
+        let mut call = line_search(38, 2, 2);
+        change(&mut call);
+        reported(&call).map_or_else(|refusal| refusal.0, |_| 0)
+    };
+    assert_eq!(number(|_| ()), 0);
+    assert_eq!(number(|s| s.dim = 0), 1);
+    assert_eq!(number(|s| s.dim = 257), 1);
+    assert_eq!(number(|s| s.n = 65_537), 2);
+    assert_eq!(number(|s| s.n = usize::MAX), 2);
+    assert_eq!(number(|s| s.bytes.truncate(3)), 2);
+    assert_eq!(number(|s| s.degree = 0), 3);
+    assert_eq!(number(|s| s.degree = 65), 3);
+    assert_eq!(number(|s| s.beam = 257), 4);
+    assert_eq!(number(|s| s.start = 4), 6);
+    assert_eq!(number(|s| s.rows.truncate(7)), 8);
+    assert_eq!(number(|s| s.rows[5] = 4), 8);
+    assert_eq!(number(|s| s.short[0] = 1), 10);
+    assert_eq!(number(|s| s.short[1] = 1), 10);
+    assert_eq!(number(|s| s.query = vec![0; 65_536]), 11);
+    assert_eq!(number(|s| (s.n, s.dim, s.rows) = (2, 2, vec![1, 0, 0, 1])), 11);
+    assert_eq!(number(|s| s.k = 0), 14);
+    assert_eq!(number(|s| s.k = 257), 14);
+    // two faults: the lower number
+    assert_eq!(number(|s| (s.dim, s.k) = (0, 0)), 1);
+    assert_eq!(number(|s| (s.n, s.degree) = (0, 0)), 2);
+    assert_eq!(number(|s| (s.degree, s.beam) = (0, 257)), 3);
+    assert_eq!(number(|s| (s.beam, s.start) = (257, 4)), 4);
+    assert_eq!(number(|s| (s.start, s.rows[0]) = (4, 4)), 6);
+    assert_eq!(number(|s| (s.rows[0], s.short) = (4, [1; 4])), 8);
+    assert_eq!(number(|s| (s.short[1], s.query) = (1, vec![0; 65_536])), 10);
+    assert_eq!(number(|s| (s.k, s.query) = (0, vec![0; 65_536])), 11);
 }
 
 /// The number that a call over the line gives once it is changed.
@@ -216,6 +283,8 @@ fn sizes_have_no_condition() {
     assert_eq!(most_answers(usize::MAX, usize::MAX), usize::MAX);
     let room = |words, floats| Room { words, floats };
     assert_eq!((build_room(65_536), search_room(65_536)), (room(425_984, 263_168), room(131_328, 65_792)));
+    assert_eq!((report_room(65_536), report_room(usize::MAX)), (room(131_840, 66_304), greatest));
+    assert_eq!((most_nearest(4, 3), most_nearest(4, 256), most_nearest(0, 1)), (3, 4, 0));
     let largest = (usize::MAX - 32_768) / 6;
     assert_eq!((build_room(largest).words, build_room(largest + 1).words), (6 * largest + 32_768, usize::MAX));
 }

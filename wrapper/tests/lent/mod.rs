@@ -1,9 +1,9 @@
-//! A search, a build, a batch and a close with all that they are lent: each slice holds a pattern, and guard words behind the room that is asked for.
+//! A search, exhaustive too, a report, a build, a batch and a close with all that they are lent: each slice holds a pattern, and guard words behind the room that is asked for.
 #![allow(dead_code)]
 
 use fjalgrout::{
-    batch, build, build_room, close, fit, lookup, most_answers, search, search_records, search_room, slack, Candidate, Params, Refusal, Scratch, Table,
-    Vectors, Wanted, PADDING,
+    batch, build, build_room, close, exhaustive, fit, lookup, most_answers, most_nearest, report, report_room, search, search_records, search_room, slack,
+    Candidate, Params, Refusal, Report, Scratch, Table, Vectors, Wanted, PADDING,
 };
 
 pub const LINE: [u8; 4] = [10, 20, 30, 40];
@@ -144,6 +144,65 @@ impl Search {
         );
         given.map(|count| ids.into_iter().zip(dists).take(count).collect())
     }
+}
+
+#[derive(Clone, Debug)]
+pub struct Nearest {
+    pub n: usize,
+    pub dim: usize,
+    pub bytes: Vec<u8>,
+    pub k: usize,
+    pub query: Vec<u8>,
+    /// How much is taken away from the ids and the distances.
+    pub short: [usize; 2],
+}
+
+pub fn line_nearest(query: u8, k: usize) -> Nearest {
+    Nearest {
+        n: 4,
+        dim: 1,
+        bytes: LINE.to_vec(),
+        k,
+        query: vec![query],
+        short: [0; 2],
+    }
+}
+
+impl Nearest {
+    /// The answers of the call, once every word that it was lent has been looked at.
+    pub fn answers(&self) -> Result<Vec<(u32, f32)>, Refusal> {
+        let most = most_nearest(self.bytes.len() / self.dim.clamp(1, 256), self.k);
+        let (mut ids, mut dists) = (words(most), floats(most));
+        let v = vectors(self.n, self.dim, &self.bytes);
+        let out = (&mut ids[..most - self.short[0]], &mut dists[..most - self.short[1]]);
+        let given = exhaustive(v, self.k, &self.query, out.0, out.1);
+        let count = *given.as_ref().unwrap_or(&0);
+        assert!(holds_pattern(&ids[count..]) && odd_from(count, &dists), "outputs beyond the answers");
+        given.map(|count| ids.into_iter().zip(dists).take(count).collect())
+    }
+}
+
+/// A report over a search's vectors and table, whose query holds all the queries; of what is taken away, the first two count.
+pub fn reported(s: &Search) -> Result<Report, Refusal> {
+    let room = report_room(s.bytes.len() / s.dim.clamp(1, 256));
+    let (mut w, mut f) = (words(room.words), floats(room.floats));
+    let scratch = Scratch {
+        words: &mut w[..room.words - s.short[0]],
+        floats: &mut f[..room.floats - s.short[1]],
+    };
+    let table = Table {
+        degree: s.degree,
+        start: s.start,
+        rows: &s.rows,
+    };
+    let given = report(vectors(s.n, s.dim, &s.bytes), table, Wanted { beam: s.beam, k: s.k }, &s.query, scratch);
+    let used = if given.is_ok() { (room.words, room.floats) } else { (0, 0) };
+    assert!(is_zero(&w[..used.0]) && is_zero(&bits(&f[..used.1])), "room left zero");
+    assert!(
+        holds_pattern(&w[used.0..]) && odd_from(used.1, &f),
+        "scratch beyond the room, or of a refused call"
+    );
+    given
 }
 
 /// What is called with a [`Build`]: a whole build of its opening rows; or a batch, with the order for its nodes, or a close, of its wide rows.
