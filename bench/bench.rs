@@ -2,182 +2,23 @@
 //!
 //!     bench N QUERIES REPEATS
 //!
-//! Entries are 64 bytes in clusters, drawn by document 01's generator, and so are opening rows, order, seeds and pivots. The parameters are
-//! 000's defaults: degree 64, beam 128, alpha 1.2, one extra seed. A search has beam 128 and asks for 128 answers, as many as 000 gives.
+//! A search has beam 128 and asks for 128 answers, as many as 000 gives.
+mod clock;
+#[allow(dead_code)]
+mod data;
 #[path = "../oracle/ours.rs"]
 #[allow(dead_code)]
 mod ours;
+mod unchecked;
 
+use clock::best;
+use data::{flat, input, Generator, Input, DIM, PARAMS};
 use diskann::probe::{self, Bytes, Counted};
-use ours::{Params, DONE, PAD};
+use ours::DONE;
 use std::hint::black_box;
 
-const DIM: usize = 64;
-const PARAMS: Params = Params { degree: 64, beam: 128, alpha: 1.2, extra: 1 };
 const BEAM: usize = 128;
 const K: usize = 128;
-
-/// Document 01, part 10.
-struct Generator(u64);
-
-impl Generator {
-    fn below(&mut self, m: usize) -> usize {
-        self.0 = self.0.wrapping_mul(6_364_136_223_846_793_005).wrapping_add(1_442_695_040_888_963_407);
-        (((self.0 >> 32) * m as u64) >> 32) as usize
-    }
-
-    /// Opening row i: one draw, then ids in a run from there.
-    fn row(&mut self, i: usize, n: usize, degree: usize) -> Vec<u32> {
-        let r = self.below(n - 1);
-        (0..degree.min(n - 1)).map(|j| ((i + 1 + (r + j) % (n - 1)) % n) as u32).collect()
-    }
-
-    fn order(&mut self, n: usize) -> Vec<u32> {
-        let mut order: Vec<u32> = (0..n as u32).collect();
-        for i in (1..n).rev() {
-            order.swap(i, self.below(i + 1));
-        }
-        order
-    }
-
-    /// A group of one seed: the first from r on that is not the start.
-    fn seed(&mut self, n: usize, start: u32) -> u32 {
-        let r = self.below(n) as u32;
-        if r == start {
-            (r + 1) % n as u32
-        } else {
-            r
-        }
-    }
-}
-
-/// Cluster centres; an entry or a query is a centre with each sample moved by -12 to 12.
-struct Clusters(Vec<u8>);
-
-impl Clusters {
-    fn new(g: &mut Generator, count: usize) -> Clusters {
-        Clusters((0..count * DIM).map(|_| 16 + g.below(224) as u8).collect())
-    }
-
-    fn entry(&self, g: &mut Generator) -> Vec<u8> {
-        let c = g.below(self.0.len() / DIM);
-        self.0[c * DIM..(c + 1) * DIM].iter().map(|&x| x - 12 + g.below(25) as u8).collect()
-    }
-}
-
-struct Input {
-    n: usize,
-    vectors: Vec<u8>,
-    queries: Vec<Vec<u8>>,
-    start: u32,
-    order: Vec<u32>,
-    seeds: Vec<u32>,
-    rows: Vec<Vec<u32>>,
-}
-
-fn input(n: usize, queries: usize) -> Input {
-    let mut g = Generator(n as u64);
-    let clusters = Clusters::new(&mut g, (n / 100).max(8));
-    let vectors: Vec<u8> = (0..n).flat_map(|_| clusters.entry(&mut g)).collect();
-    let queries = (0..queries).map(|_| clusters.entry(&mut g)).collect();
-    let pivots: Vec<u32> = (0..8).map(|_| g.below(n) as u32).collect();
-    let start = ours::medoid(n, DIM, &vectors, &pivots).id;
-    assert_eq!(start as usize, probe::medoid(n, DIM, &vectors, &pivots), "the start");
-    let rows = (0..n).map(|i| g.row(i, n, PARAMS.degree)).collect();
-    let order = g.order(n);
-    let seeds = (0..n).map(|_| g.seed(n, start)).collect();
-    Input { n, vectors, queries, start, order, seeds, rows }
-}
-
-fn flat(rows: &[Vec<u32>], width: usize) -> Vec<u32> {
-    rows.iter().flat_map(|row| row.iter().copied().chain(std::iter::repeat(PAD)).take(width)).collect()
-}
-
-/// The search without its checks (bench/run makes it): ours to call only with what they accept.
-mod unchecked {
-    use crate::ours::{Answer, Search};
-
-    extern "C" {
-        fn unchecked_search(
-            n: usize,
-            dim: usize,
-            vectors: *const u8,
-            vectors_len: usize,
-            degree: usize,
-            beam: usize,
-            k: usize,
-            start: u32,
-            table: *const u32,
-            table_len: usize,
-            query: *const u8,
-            query_len: usize,
-            words: *mut u32,
-            words_len: usize,
-            floats: *mut f32,
-            floats_len: usize,
-            ids: *mut u32,
-            ids_len: usize,
-            dists: *mut f32,
-            dists_len: usize,
-        ) -> Answer;
-    }
-
-    pub fn search(s: Search, words: &mut [u32], floats: &mut [f32], ids: &mut [u32], dists: &mut [f32]) -> Answer {
-        unsafe {
-            unchecked_search(
-                s.n,
-                s.dim,
-                s.vectors.as_ptr(),
-                s.vectors.len(),
-                s.degree,
-                s.beam,
-                s.k,
-                s.start,
-                s.table.as_ptr(),
-                s.table.len(),
-                s.query.as_ptr(),
-                s.query.len(),
-                words.as_mut_ptr(),
-                words.len(),
-                floats.as_mut_ptr(),
-                floats.len(),
-                ids.as_mut_ptr(),
-                ids.len(),
-                dists.as_mut_ptr(),
-                dists.len(),
-            )
-        }
-    }
-}
-
-#[repr(C)]
-#[derive(Default)]
-struct Timespec {
-    seconds: i64,
-    nanoseconds: i64,
-}
-
-extern "C" {
-    fn clock_gettime(clock: i32, time: *mut Timespec) -> i32;
-}
-
-/// This thread's processor time in seconds: what else the machine does counts least so.
-fn now() -> f64 {
-    const CLOCK_THREAD_CPUTIME_ID: i32 = 3;
-    let mut time = Timespec::default();
-    assert_eq!(unsafe { clock_gettime(CLOCK_THREAD_CPUTIME_ID, &mut time) }, 0);
-    time.seconds as f64 + time.nanoseconds as f64 * 1e-9
-}
-
-/// The best time of so many runs, in seconds.
-fn best(repeats: usize, mut run: impl FnMut()) -> f64 {
-    let once = |_| {
-        let began = now();
-        run();
-        now() - began
-    };
-    (0..repeats).map(once).fold(f64::INFINITY, f64::min)
-}
 
 fn line(what: &str, ours: f64, theirs: f64, unit: &str) {
     println!("{what:<28} ours {ours:>12.3} {unit}   000 {theirs:>12.3} {unit}   ratio {:.3}", ours / theirs);
@@ -310,6 +151,7 @@ fn main() {
     let [n, queries, repeats] = args[..] else { panic!("bench N QUERIES REPEATS") };
     println!("n {n}, dim {DIM}, degree 64, build beam 128, alpha 1.2, extra seeds 1; search beam {BEAM}, k {K}; {queries} queries, best of {repeats}");
     let i = input(n, queries);
+    assert_eq!(i.start as usize, probe::medoid(n, DIM, &i.vectors, &i.pivots), "the start");
     distances(&i, repeats);
     let (mut wide, closed) = builds(&i, repeats.min(if n > 2_000 { 2 } else { 5 }));
     rule(&i, &mut wide, repeats);
