@@ -18,10 +18,10 @@ use Rattle.beam.specs.Placing.{place-among}
 use Rattle.kept.specs.Kept.{Kept, keyOf, keysOf, items, opens, opening, Closed, Inside, Falling}
 use Rattle.kept.specs.Keyed.{open-key, key-least, key-below, length-front, length-items, falling-desc}
 use Rattle.kept.specs.Says.{Standing, standing, works, boundOf, boundK, Works, Working, Admitted}
-use Rattle.kept.specs.Laws.{works-length}
+use Rattle.kept.specs.Laws.{works-length, works-rise}
 use Rattle.kept.specs.Cases.{admitted-is, meet-frontier, meet-work}
 use Rattle.kept.proofs.Keeping.{put, all-put, length-put, falling-put, Entered, entered-room, entered-full}
-use Rattle.kept.proofs.Reading.{keys-rise, bound-same}
+use Rattle.kept.specs.Reading.{bound-same}
 use Rattle.kept.proofs.Placing.{keys-put, closed-put}
 
 -- of the best `done`, which are walked, the best m are
@@ -144,9 +144,6 @@ module _ (x : Item) (own : x .id < 65536) (near : x .dist < half) where
 
     -- ---- what `put` asks
     module _ (last : ℕ) (o : Slot n beam s frontier work last) where
-      rises : Rising (s .keys)
-      rises = subst Rising (sym (k .keys-are)) (keys-rise n (k .nodes) (k .kept) (k .inside) (k .sorted) (omega (arith, k .len-is, k .len-le, k .beam-le)))
-
       long : length (s .keys) ≡ 256
       long = works-length n beam s frontier work k
 
@@ -158,9 +155,9 @@ module _ (x : Item) (own : x .id < 65536) (near : x .dist < half) where
       put-asks : Rising (s .keys) × (PlaceIn (s .keys) key 0 256 × ((last < length (s .keys)) × (key < getD (s .keys) last 0)))
       put-asks =
           let less : key < getD (s .keys) last 0 = omega (arith, at-last, o .above) in (
-            rises,
+            works-rise k,
             (
-              place-among (s .keys) key last 256 rises (omega (arith, o .room, k .beam-le)) (omega (arith, long)) less,
+              place-among (s .keys) key last 256 (works-rise k) (omega (arith, o .room, k .beam-le)) (omega (arith, long)) less,
               (omega (arith, o .room, k .beam-le, long), less),
             ),
           )

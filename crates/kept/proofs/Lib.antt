@@ -1,5 +1,4 @@
 -- Laws that belong to no one function.
-pub mod Reading
 pub mod Keeping
 pub mod Placing
 pub mod Admitting

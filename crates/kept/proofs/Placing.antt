@@ -15,7 +15,7 @@ use Rattle.beam.specs.Keys.{Put}
 use Rattle.kept.specs.Kept.{Kept, keyOf, keysOf, opening, Closed, Inside, Falling}
 use Rattle.kept.specs.Keyed.{open-nearer, length-keys, length-front, falling-at}
 use Rattle.kept.proofs.Keeping.{put, put-first}
-use Rattle.kept.proofs.Reading.{key-at}
+use Rattle.kept.specs.Reading.{key-at}
 
 module _ (n : ℕ) (most : n ≤ 65536) (x : Item) (own : x .id < 65536) (ks : List Kept) (inside : All (Inside n) ks) (sorted : Falling ks)
     (y : ℕ) (behind : List ℕ) (at : ℕ) (after : List ℕ) (p : Put (rev (keysOf ks) ++ y ∷ behind) (length ks) (keyOf (opening x)) at after) where

@@ -21,7 +21,7 @@ use Rattle.kept.specs.Keyed.{shut, open-key, closed-key, odd-open, even-
 use Rattle.kept.specs.Says.{Standing, standing, works, boundOf, haltsK, Works, Next, Pops}
 use Rattle.kept.proofs.Keeping.{opens-closed}
 use Rattle.kept.proofs.Closing.{close, keys-close, items-close, all-close, closed-from, falling-close, best-is, without-is, frontier-some}
-use Rattle.kept.proofs.Reading.{key-at}
+use Rattle.kept.specs.Reading.{key-at}
 
 -- ---- tests
 not-ltb : (a b : ℕ) → not (ltb a b) ≡ leb b a

@@ -8,13 +8,13 @@ use native.Mathlib.Omega.{arith}
 use borrow.Author.Tests.{lt-ltb, le-ltb}
 use lib.Dec.{ltb}
 use lib.ListN.{length, getD, replicate, length-map, length-append, length-replicate}
-use Rattle.definition.specs.Beam.{Item, nobody, nearer}
+use Rattle.definition.specs.Beam.{Item, item, nobody, nearer}
 use Rattle.laws.specs.Truth.{decide}
 use Rattle.laws.specs.Items.{nearer-is, not-nearer}
 use Rattle.laws.specs.All.{All, all-at}
 use Rattle.laws.specs.Backwards.{rev, length-rev}
 use Rattle.laws.specs.Descending.{Desc}
-use Rattle.beam.specs.Keys.{half, none, closedKey, openKey, distOf, idOf}
+use Rattle.beam.specs.Keys.{half, none, closedKey, openKey, distOf, idOf, itemOf}
 use Rattle.kept.specs.Kept.{Kept, keyOf, keysOf, items, opening, Inside, Falling}
 
 -- ---- one key
@@ -92,13 +92,10 @@ pub length-items : (ks : List Kept) → length (items ks) ≡ length ks
 length-items ks = length-map ks (λ (k : Kept). k .of)
 
 module _ (n : ℕ) (most : n ≤ 65536) where
-  pub dists-of : (ks : List Kept) → All (Inside n) ks → map distOf (keysOf ks) ≡ map (λ (c : Item). c .dist) (items ks)
-  dists-of [] a = refl
-  dists-of (k ∷ ks) a = ap₂ (λ (d : ℕ) (l : List ℕ). d ∷ l) (key-dist k (omega arith)) (dists-of ks (a .1))
-
-  pub ids-of : (ks : List Kept) → All (Inside n) ks → map idOf (keysOf ks) ≡ map (λ (c : Item). c .id) (items ks)
-  ids-of [] a = refl
-  ids-of (k ∷ ks) a = ap₂ (λ (i : ℕ) (l : List ℕ). i ∷ l) (key-id k (omega arith)) (ids-of ks (a .1))
+  pub items-of : (ks : List Kept) → All (Inside n) ks → map itemOf (keysOf ks) ≡ items ks
+  items-of [] a = refl
+  items-of (k ∷ ks) a =
+      ap₂ (λ (c : Item) (l : List Item). c ∷ l) (ap₂ item (key-dist k (omega arith)) (key-id k (omega arith))) (items-of ks (a .1))
 
   -- keys that fall: their items descend
   pub falling-desc : (ks : List Kept) → All (Inside n) ks → Falling ks → Desc (items ks)

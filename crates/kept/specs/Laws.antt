@@ -7,11 +7,11 @@ use lib.ListN.{length, take, replicate}
 use lib.Seq.{take-at}
 use Rattle.definition.specs.Beam.{Item}
 use Rattle.laws.specs.Backwards.{rev, map-rev}
-use Rattle.laws.specs.Descending.{Desc}
-use Rattle.beam.specs.Keys.{none, distOf, idOf}
+use Rattle.beam.specs.Keys.{none, itemOf, Rising}
 use Rattle.kept.specs.Kept.{keysOf, opens}
-use Rattle.kept.specs.Keyed.{length-front, length-all, length-items, dists-of, ids-of, falling-desc}
+use Rattle.kept.specs.Keyed.{length-front, length-all, length-items, items-of}
 use Rattle.kept.specs.Says.{Standing, standing, noWork, Works, Tells}
+use Rattle.kept.specs.Reading.{keys-rise}
 
 pub works-none : (n beam : ℕ) (keys : List ℕ) → n ≤ 65536 → beam ≤ 256 → keys ≡ replicate 256 none → Works n beam (standing keys (noWork beam)) [] []
 unfolding rev opens
@@ -42,17 +42,18 @@ pub works-fit : {n beam : ℕ} {s : Standing} {frontier work : List Item} → Wo
     → (s .work .len ≤ length (s .keys)) × (s .work .done ≤ s .work .len)
 works-fit {n} {beam} {s} {frontier} {work} k = (omega (arith, works-length n beam s frontier work k, k .len-le, k .beam-le), k .done-le)
 
+pub works-rise : {n beam : ℕ} {s : Standing} {frontier work : List Item} → Works n beam s frontier work → Rising (s .keys)
+works-rise {n} k =
+    subst Rising (sym (k .keys-are)) (keys-rise n (k .nodes) (k .kept) (k .inside) (k .sorted) (omega (arith, k .len-is, k .len-le, k .beam-le)))
+
 pub works-tell : (n beam : ℕ) (s : Standing) (frontier work : List Item) → Works n beam s frontier work → Tells (s .keys) (s .work .len) work
 works-tell n beam s frontier work k =
     record {
       size = ap length (k .work-is) ∙ length-items (k .kept) ∙ k .len-is;
-      ids-are =
-          ap (map idOf) first ∙ map-rev idOf (keysOf (k .kept)) ∙ ap rev (ids-of n (k .nodes) (k .kept) (k .inside))
-          ∙ ap (λ (l : List Item). rev (map (λ (c : Item). c .id) l)) (sym (k .work-is));
-      dists-are =
-          ap (map distOf) first ∙ map-rev distOf (keysOf (k .kept)) ∙ ap rev (dists-of n (k .nodes) (k .kept) (k .inside))
-          ∙ ap (λ (l : List Item). rev (map (λ (c : Item). c .dist) l)) (sym (k .work-is));
-      sorted = subst Desc (sym (k .work-is)) (falling-desc n (k .nodes) (k .kept) (k .inside) (k .sorted));
+      up = works-rise k;
+      items-are =
+          ap (map itemOf) first ∙ map-rev itemOf (keysOf (k .kept)) ∙ ap rev (items-of n (k .nodes) (k .kept) (k .inside))
+          ∙ ap rev (sym (k .work-is));
     }
   where
     first : take (s .work .len) (s .keys) ≡ rev (keysOf (k .kept))

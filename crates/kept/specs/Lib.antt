@@ -2,5 +2,6 @@
 pub mod Kept
 pub mod Keyed
 pub mod Says
+pub mod Reading
 pub mod Cases
 pub mod Laws

@@ -9,9 +9,8 @@ use Rattle.definition.specs.Beam.{Item, item, worst, best}
 use Rattle.definition.specs.Greedy.{State, meet, stops, popped}
 use Rattle.laws.specs.All.{All}
 use Rattle.laws.specs.Backwards.{rev}
-use Rattle.laws.specs.Descending.{Desc}
 use Rattle.laws.specs.Paired.{itemsOf}
-use Rattle.beam.specs.Keys.{half, none, distOf, idOf}
+use Rattle.beam.specs.Keys.{half, none, distOf, itemOf, Rising}
 use Rattle.kept.specs.declared.Work.{Work}
 use Rattle.kept.specs.declared.Popped.{Popped}
 use Rattle.kept.specs.Kept.{Kept, keysOf, items, opens, Closed, Inside, Falling, Beyond}
@@ -101,9 +100,8 @@ pub record Pops (beam : ℕ) (before : Standing) (keys : List ℕ) (r : Popped) 
   pub working : r .found ≡ true → (n : ℕ) (st : State) → Works n beam before (st .frontier) (st .work)
       → Works n beam (standing keys (works (before .work .len) (r .done) (before .work .bound))) (popped st .frontier) (popped st .work)
 
--- ---- what the keys tell at the end: the ids and the distances of the work, which descends, the best first
+-- ---- what the keys tell at the end: they rise, and hold the work, the best first
 pub record Tells (keys : List ℕ) (len : ℕ) (work : List Item) : Type 0 where
   pub size : length work ≡ len
-  pub ids-are : map idOf (take len keys) ≡ rev (map (λ (c : Item). c .id) work)
-  pub dists-are : map distOf (take len keys) ≡ rev (map (λ (c : Item). c .dist) work)
-  pub sorted : Desc work
+  pub up : Rising keys
+  pub items-are : map itemOf (take len keys) ≡ rev work

@@ -122,17 +122,49 @@ worse-dist x y e = nearer-dist y x e
 pub strictly-nearer : (x y : Item) → x .dist < y .dist → nearer x y ≡ true
 strictly-nearer x y h = is-nearer x y (inl h)
 
--- the answers' order, which the definition says once more
-pub listed-is : (x y : Item) → listedFirst x y ≡ nearer x y
+-- the answers' order is the same but for the ids, which it compares the other way round
+listed-exchanged : (x y : Item) → listedFirst x y ≡ nearer (item (x .dist) (y .id)) (item (y .dist) (x .id))
 unfolding listedFirst nearer
-listed-is x y = refl
+listed-exchanged x y = refl
+
+-- the test, as a fact: by distance, then the higher id
+abbrev pub ListedBefore : Item → Item → Type 0
+ListedBefore x y = (x .dist < y .dist) ⊎ ((x .dist ≡ y .dist) × (y .id < x .id))
+
+pub listed-is : (x y : Item) → listedFirst x y ≡ true → ListedBefore x y
+listed-is x y e = nearer-is (item (x .dist) (y .id)) (item (y .dist) (x .id)) (sym (listed-exchanged x y) ∙ e)
+
+pub is-listed : (x y : Item) → ListedBefore x y → listedFirst x y ≡ true
+is-listed x y b = listed-exchanged x y ∙ is-nearer (item (x .dist) (y .id)) (item (y .dist) (x .id)) b
+
+pub not-listed : (x y : Item) → ¬ ListedBefore x y → listedFirst x y ≡ false
+not-listed x y n = is-false (listedFirst x y) (λ t. n (listed-is x y t))
 
 pub listed-order : Order listedFirst
-unfolding listedFirst nearer
-listed-order = nearer-order
+listed-order =
+    record {
+      through = λ x y z p q. is-listed x z (through x y z (listed-is x y p) (listed-is y z q));
+      never-own = λ x. listed-exchanged x x ∙ nearer-order .never-own x;
+      settles = λ x y p q.
+          let e = neither-nearer (item (x .dist) (y .id)) (item (y .dist) (x .id)) (sym (listed-exchanged x y) ∙ p) (sym (listed-exchanged y x) ∙ q) in
+          ap₂ item (ap (λ (c : Item). c .dist) e) (sym (ap (λ (c : Item). c .id) e));
+    }
+  where
+    through : (x y z : Item) → ListedBefore x y → ListedBefore y z → ListedBefore x z
+    through x y z (inl p) (inl q) = inl (omega arith)
+    through x y z (inl p) (inr q) = inl (omega arith)
+    through x y z (inr p) (inl q) = inl (omega arith)
+    through x y z (inr p) (inr q) = inr (omega arith, omega arith)
+
+pub listed-higher : (x y : Item) → listedFirst x y ≡ true → x .dist ≡ y .dist → y .id < x .id
+listed-higher x y e same = go (listed-is x y e)
+  where
+    go : ListedBefore x y → y .id < x .id
+    go (inl h) = absurd (omega arith)
+    go (inr h) = h .1
 
 pub listed-dist : (x y : Item) → listedFirst x y ≡ true → x .dist ≤ y .dist
-listed-dist x y e = nearer-dist x y (sym (listed-is x y) ∙ e)
+listed-dist x y e = nearer-dist (item (x .dist) (y .id)) (item (y .dist) (x .id)) (sym (listed-exchanged x y) ∙ e)
 
 -- ---- the best of a beam
 

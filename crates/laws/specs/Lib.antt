@@ -11,7 +11,7 @@
 --   Looked    a loop that looks for what fails a test          Paired     items held in two lists, ids and distances
 --   All       what holds of every element of a list            Mapped     a list with f of each element
 --   Cleaned   a table as `lookup` reads it                     Descending items that descend, as in a beam
---   Sums      numbers added up and counted, one more
+--   Sums      numbers added up and counted, one more           Sorted     `sort` where equals may stand twice; stretches that it turns
 pub mod Truth
 pub mod Members
 pub mod Apart
@@ -37,3 +37,4 @@ pub mod Paired
 pub mod Cleaned
 pub mod Descending
 pub mod Sums
+pub mod Sorted

@@ -1,2 +1,3 @@
--- Answers written from keys.
+-- Answers written from keys: what is listed, and one run of equal distances.
 pub mod Listed
+pub mod Runs

@@ -1,6 +1,7 @@
 -- Exhaustive search (1/13), over what a caller holds after one that was not refused: the front of the two outputs, `count` places of each. They are the
 -- min(k, n) nearest of all entries, each once and with its own distance beside it, in the answers' order; and an entry that is not among them is listed
--- after each of them, so none that is missing comes before the last. Nothing here turns on what that order is.
+-- after each of them, so none that is missing comes before the last: it is no nearer than any of them, and an equal of one has a lower id (3/13). Nothing else
+-- here turns on what that order is.
 use Prim.Native.Nat.{ℕ, _<_, min}
 use mathlib.Core.Path.{_≡_, refl, sym, ap, _∙_, subst}
 use mathlib.Core.Bool.{true}
@@ -17,7 +18,7 @@ use Rattle.laws.specs.Mapped.{map-same}
 use Rattle.laws.specs.Apart.{apart-nodup}
 use Rattle.laws.specs.Sorting.{Ordered, none, more}
 use Rattle.laws.specs.Writing.{over-front}
-use Rattle.laws.specs.Items.{idsOf, ids-elim}
+use Rattle.laws.specs.Items.{idsOf, ids-elim, listed-higher}
 use Rattle.theory.specs.recall.Nearest.{nearest-count, nearest-own, nearest-ordered, nearest-once, nearest-before}
 use Rattle.accepted.specs.Outcomes.{by-success, said-zero}
 use Rattle.promises.specs.Outcomes.{exhaustive-is}
@@ -38,6 +39,7 @@ pub record NearestHeld (c : ExhaustiveCall) (count : ℕ) (ids : List ℕ) (dist
   pub own : take count dists ≡ map (λ i. whole (distanceFrom c i)) (take count ids)
   pub ordered : Ordered (λ i j. listedFirst (entry c i) (entry c j)) (take count ids)
   pub left-out : (i : ℕ) → i < c .n → ¬ Mem i (take count ids) → (j : ℕ) → Mem j (take count ids) → listedFirst (entry c j) (entry c i) ≡ true
+  pub newer : (i : ℕ) → i < c .n → ¬ Mem i (take count ids) → (j : ℕ) → Mem j (take count ids) → distanceFrom c i ≡ distanceFrom c j → i < j
 
 -- items in order, each with its own distance: so are their ids
 ids-ordered : (d : ℕ → ℕ) {l : List Item} → ((x : Item) → Mem x l → x ≡ item (d (x .id)) (x .id)) → Ordered listedFirst l
@@ -91,6 +93,7 @@ module _ (c : ExhaustiveCall) where
         own = dists-are ∙ own ∙ ap (map (λ i. whole (d i))) (sym ids-are);
         ordered = rw ids-are (ids-ordered d answer-own answers-ordered);
         left-out = rw ids-are answers-left-out;
+        newer = rw ids-are (λ i h out j m e. listed-higher (entry c j) (entry c i) (answers-left-out i h out j m) (sym e));
       }
     where
       ids-are : take (length (nearestTo c)) (over (idsOf (nearestTo c)) (c .ids)) ≡ idsOf (nearestTo c)

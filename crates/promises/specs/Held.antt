@@ -14,8 +14,7 @@ use Rattle.definition.specs.declared.Candidate.{Candidate}
 use Rattle.definition.specs.Lists.{over}
 use Rattle.definition.specs.Metric.{whole}
 use Rattle.definition.specs.Floats.{nought}
-use Rattle.definition.specs.Beam.{Item, nobody, nearer}
-use Rattle.definition.specs.Search.{listedFirst}
+use Rattle.definition.specs.Beam.{Item, nobody}
 use Rattle.definition.specs.Refusals.{SearchCall, searchNumber, recordsNumber}
 use Rattle.definition.specs.Outcome.{answer, refused, found, foundIds, foundDists, foundRecords}
 use Rattle.definition.specs.Outcome.{SearchOut, SearchMeets, searchOut, searchKept, searchDone}
@@ -26,15 +25,19 @@ use Rattle.laws.specs.Members.{mem-length, mem-at}
 use Rattle.laws.specs.Backwards.{map-take}
 use Rattle.laws.specs.Writing.{over-front}
 use Rattle.laws.specs.Places.{places-ordered}
-use Rattle.laws.specs.Items.{nearer-is}
+use Rattle.laws.specs.Items.{listed-is}
 use Rattle.theory.specs.search.Tells.{from-start, SearchTells, Excludes}
 use Rattle.accepted.specs.Outcomes.{by-success, said-zero}
 use Rattle.accepted.specs.Search.{SearchAccepted, search-accepted, records-accepted, search-answers}
 use Rattle.promises.specs.Outcomes.{search-is, records-is}
 use Rattle.promises.specs.Searching.{rowsOf, distanceTo, lastDistance, search-tells, search-excludes, search-order}
 
+-- entry i is answered before entry j: it is nearer, or as near and newer
+abbrev pub FirstOf : SearchCall → ℕ → ℕ → Type 0
+FirstOf c i j = (distanceTo c i < distanceTo c j) ⊎ ((distanceTo c i ≡ distanceTo c j) × (j < i))
+
 -- `count` answers stand at the front of `ids` and `dists`: those of the definition, at least one unless k is 0, each id below n and with its own distance
--- beside it, by distance and then the lower id; the distance of the last one stands last; and they tell and exclude what demand 3 says
+-- beside it, by distance and then the higher id; the distance of the last one stands last; and they tell and exclude what demand 3 says
 pub record Held (c : SearchCall) (count : ℕ) (ids : List ℕ) (dists : List Float) : Type 0 where
   pub ids-are : take count ids ≡ foundIds c
   pub dists-are : take count dists ≡ foundDists c
@@ -42,9 +45,7 @@ pub record Held (c : SearchCall) (count : ℕ) (ids : List ℕ) (dists : List Fl
   pub some : 0 < c .k → 0 < count
   pub below : (i : ℕ) → i < count → getD ids i 0 < c .n
   pub own : (i : ℕ) → i < count → getD dists i nought ≡ whole (distanceTo c (getD ids i 0))
-  pub ordered : (i j : ℕ) → i < j → j < count
-      → (distanceTo c (getD ids i 0) < distanceTo c (getD ids j 0))
-      ⊎ ((distanceTo c (getD ids i 0) ≡ distanceTo c (getD ids j 0)) × (getD ids i 0 < getD ids j 0))
+  pub ordered : (i j : ℕ) → i < j → j < count → FirstOf c (getD ids i 0) (getD ids j 0)
   pub last : 0 < count → lastDistance c ≡ distanceTo c (getD ids (count - 1) 0)
   pub last-beside : 0 < count → getD dists (count - 1) nought ≡ whole (lastDistance c)
   pub tells : SearchTells (rowsOf c) (distanceTo c) (c .start) (min (c .k) (max (c .beam) 1)) (take count ids) (lastDistance c)
@@ -70,15 +71,12 @@ module _ (c : SearchCall) (a : SearchAccepted c) (ids : List ℕ) (dists : List 
       let t = search-answers c a x (mem-at nobody (found c) i (omega arith)) in
       (t .0 ∙ ap (distanceTo c) (sym e), subst (λ (u : ℕ). u < c .n) (sym e) (t .1))
 
-  ordered : (i j : ℕ) → i < j → j < count
-      → (distanceTo c (getD ids i 0) < distanceTo c (getD ids j 0))
-      ⊎ ((distanceTo c (getD ids i 0) ≡ distanceTo c (getD ids j 0)) × (getD ids i 0 < getD ids j 0))
-  unfolding listedFirst nearer
+  ordered : (i j : ℕ) → i < j → j < count → FirstOf c (getD ids i 0) (getD ids j 0)
   ordered i j h l =
       let x = getD (found c) i nobody in
       let y = getD (found c) j nobody in
       let p : i < count = omega arith in
-      rw (own-at i p .0, own-at j l .0, ← id-at i p, ← id-at j l) at (nearer-is x y (places-ordered nobody (search-order c a) i j h (omega arith)))
+      rw (own-at i p .0, own-at j l .0, ← id-at i p, ← id-at j l) at (listed-is x y (places-ordered nobody (search-order c a) i j h (omega arith)))
 
   at-end : lastDistance c ≡ getD (found c) (count - 1) nobody .dist
   at-end = ap (λ (m : ℕ). getD (found c) (m - 1) nobody .dist) (sym size)

@@ -1,7 +1,8 @@
 -- Demand 3, second sentence: what the answers of a search tell, and what they exclude. For every accepted search, with a run of records or not, and every
 -- accepted text of `seek` (crate accepted says what those have), for every k: as many answers are asked for as min(k, max(beam, 1)).
--- "Answers by distance, then id, cut to k." Each has its own distance and is below n; they stand in strict order; what is cut off comes after all of them.
-use Prim.Native.Nat.{ℕ, _-_, _≤_, max, min}
+-- "Answers by distance, then id, cut to k", the higher id first (3/13). Each has its own distance and is below n; they stand in strict order; what is cut off
+-- comes after all of them.
+use Prim.Native.Nat.{ℕ, _-_, _≤_, _<_, max, min}
 use native.Mathlib.Omega.{arith}
 use mathlib.Core.Path.{_≡_, refl, sym, subst}
 use mathlib.Core.Logic.{_⊎_, inl, inr}
@@ -17,7 +18,7 @@ use Rattle.definition.specs.Search.{listedFirst, ranked, searched, answers}
 use Rattle.definition.specs.Refusals.{SearchCall, searchNumber}
 use Rattle.definition.specs.Outcome.{found, foundIds}
 use Rattle.laws.specs.Sorting.{Ordered, mem-sort, take-ordered, ordered-across, ordered-pairwise}
-use Rattle.laws.specs.Items.{idsOf}
+use Rattle.laws.specs.Items.{idsOf, listed-higher}
 use Rattle.theory.specs.search.Tells.{SearchTells, Excludes}
 use Rattle.theory.specs.search.Ground.{Ground}
 use Rattle.theory.specs.search.Stopped.{stopped-ordered, stopped-tells, stopped-excludes}
@@ -68,7 +69,7 @@ module _ (c : SearchCall) (a : SearchAccepted c) where
   pub search-ordered : Pairwise (λ (x y : Item). listedFirst x y ≡ true) (found c)
   search-ordered = ordered-pairwise search-order
 
-  -- "cut to k": what the search holds at its end and does not answer is listed after every answer, so that of equals the lower id is answered first
+  -- "cut to k": what the search holds at its end and does not answer is listed after every answer
   pub search-cut : (x y : Item) → Mem x (searched (fromQuery (c .dim) (c .vectors) (c .query)) (row (c .degree) (c .table)) (c .n) (c .beam) (c .start) .work)
       → ¬ Mem x (found c)
       → Mem y (found c)
@@ -88,6 +89,14 @@ module _ (c : SearchCall) (a : SearchAccepted c) where
           ordered-across (take (c .k) sorted) (drop (c .k) sorted)
           (subst (λ (l : List Item). Ordered listedFirst l) (sym parts) (stopped-ordered g end (greedy-done g))) y x
           (subst (λ (l : List Item). Mem y l) found-is answered) m
+
+  -- so of equals the newer are answered: what is not answered and is as far as an answer has a lower id
+  pub search-newer : (x y : Item) → Mem x (searched (fromQuery (c .dim) (c .vectors) (c .query)) (row (c .degree) (c .table)) (c .n) (c .beam) (c .start) .work)
+      → ¬ Mem x (found c)
+      → Mem y (found c)
+      → x .dist ≡ y .dist
+      → x .id < y .id
+  search-newer x y held out answered e = listed-higher y x (search-cut x y held out answered) (sym e)
 
 -- where k is at least the beam, a beam of 0 read as 1, the beam's number is asked for
 pub search-claim : (c : SearchCall) → searchNumber c ≡ 0 → max (c .beam) 1 ≤ c .k

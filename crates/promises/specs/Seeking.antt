@@ -136,7 +136,7 @@ pub seek-answers : (text : List ℕ) → (getD (seek text) 0 0 ≢ 114 → seekN
 seek-answers text = (unrefused text, begins text)
 
 -- what is printed for a text, c its search: a line with the count and a line for each answer; so read, as many items as the count says, each below n and with
--- its own distance, by distance and then the lower id; the last distance is that of the last; and the ids tell and exclude what demand 3 says
+-- its own distance, by distance and then the higher id; the last distance is that of the last; and the ids tell and exclude what demand 3 says
 pub record SeekHeld (c : SearchCall) (bytes : List ℕ) : Type 0 where
   pub bytes-are : bytes ≡ printFound (found c)
   pub items-are : itemsRead bytes ≡ found c

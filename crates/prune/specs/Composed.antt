@@ -15,7 +15,7 @@ use Rattle.whole.specs.Whole.{limit}
 use Rattle.metric.specs.Exact.{VectorIn}
 use Rattle.laws.specs.All.{All, all-take}
 use Rattle.laws.specs.Paired.{itemsOf, items-ids, ids-items}
-use Rattle.offers.specs.Sorting.{all-sort}
+use Rattle.laws.specs.Sorted.{all-sort}
 use Rattle.prune_pool.specs.Says.{Distinct, Pool, Chosen}
 use Rattle.table.specs.Rows.{Written}
 use Rattle.prune.specs.Says.{Measurable}

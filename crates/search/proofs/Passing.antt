@@ -1,6 +1,6 @@
 -- A lookup that is accepted: what the walk is given, what is listed from it, and what is left. c is the call as cleaned, `table` the table that is lent. The
 -- walk's room lies within the stated room, so all that it wrote is wiped, and what lies beyond is as it was lent.
-use mathlib.Core.Path.{_≡_, refl, sym, ap, _∙_, subst}
+use mathlib.Core.Path.{_≡_, refl, sym, ap, _∙_}
 use mathlib.Core.Bool.{false}
 use mathlib.Core.List.{List}
 use Prim.Native.Nat.{ℕ, _-_, _≤_, min, max, zero-le}
@@ -8,11 +8,10 @@ use native.Mathlib.Nat.{zero-add}
 use native.Mathlib.Omega.{arith}
 use borrow.Rule.Slice.PartMut.{putMid}
 use lib.ListN.{length, getD, drop, replicate}
-use Rattle.definition.specs.Lists.{cleared}
 use Rattle.definition.specs.Metric.{fromQuery}
 use Rattle.definition.specs.Tables.{cleaned}
 use Rattle.definition.specs.Floats.{nought}
-use Rattle.definition.specs.declared.Answer.{Answer}
+use Rattle.definition.specs.Search.{ranked}
 use Rattle.definition.specs.Outcome.{answer, searchDone}
 use Rattle.definition.specs.Refusals.{SearchCall, searchWords, mostAnswers}
 use Rattle.laws.specs.Parts.{part, Within, within-wider, within-trans}
@@ -21,12 +20,13 @@ use Rattle.laws.specs.Cleaned.{length-cleaned}
 use Rattle.scratch.specs.Lent.{Lent, lent}
 use Rattle.scratch.specs.Layout.{searchEnd, searchFloatsEnd}
 use Rattle.scratch.specs.Zeroed.{zeroed-within, zeroed-at}
+use Rattle.beam.specs.Keys.{Rising}
 use Rattle.kept.specs.Says.{Tells}
 use Rattle.greedy.specs.declared.Plan.{Plan}
 use Rattle.greedy.specs.declared.Walked.{Walked}
 use Rattle.greedy.specs.Scratch.{Ground, walkOf, walkEnd, Room, Walks}
 use Rattle.accepted.specs.Search.{SearchAccepted as Accepted}
-use Rattle.listing.specs.Listed.{Pairs, pairs, Listed}
+use Rattle.listing.specs.Listed.{Pairs, pairs, itemsIn, Listed}
 use Rattle.search.specs.Answering.{Wiped, stateOf, found-count, found-ids, found-dists}
 use Rattle.search.specs.Statement.{outOf, Searched}
 
@@ -82,8 +82,12 @@ module _ (c : SearchCall) (a : Accepted c) (table : List ℕ) (table-is : c .tab
       unfolding mostAnswers
       few = omega (arith, walks .work-le)
 
-      pub list-room : (count ≤ 256) × (count ≤ length (c .ids)) × (count ≤ length (c .dists))
-      list-room = (omega (arith, walks .work-le, a .beam-few), omega (arith, few, a .id-room), omega (arith, few, a .dist-room))
+      pub list-room : (size : length keys ≡ 256)
+          → Rising keys × ((count ≤ r .work) × (r .work ≤ length keys) × (count ≤ length (c .ids)) × (count ≤ length (c .dists)))
+      list-room size = (
+        walks .work-is .up,
+        (omega arith, omega (arith, walks .work-le, a .beam-few), omega (arith, few, a .id-room), omega (arith, few, a .dist-room)),
+      )
 
       pub wipe-room : (n ≤ 65536) × (searchEnd n ≤ length after) × (searchFloatsEnd n ≤ length (c .floats))
       wipe-room = (a .nodes, omega (arith, kept .size, a .word-room), omega (arith, a .float-room))
@@ -96,7 +100,8 @@ module _ (c : SearchCall) (a : Accepted c) (table : List ℕ) (table-is : c .tab
       unfolding searchWords
       beyond-words = kept .above
 
-      module _ (outs : Pairs) (l : Listed keys count (pairs (c .ids) (c .dists)) outs) (left : Lent) (z : Wiped n (lent after (c .floats)) left) where
+      module _ (outs : Pairs) (l : Listed (ranked count (itemsIn keys (r .work))) (pairs (c .ids) (c .dists)) outs)
+          (left : Lent) (z : Wiped n (lent after (c .floats)) left) where
         done-is : outOf (answer 0 count 0 0 nought) (left .words) (left .floats) (outs .ids) (outs .dists) ≡ searchDone c
         unfolding searchDone
         done-is =
@@ -108,10 +113,6 @@ module _ (c : SearchCall) (a : Accepted c) (table : List ℕ) (table-is : c .tab
               found-dists c keys (r .work) told count count-is outs l,
             ) refl
 
-        pub done : (e : Answer) → e ≡ answer 0 count 0 0 nought → Searched c (outOf e (left .words) (left .floats) (outs .ids) (outs .dists))
+        pub done : Searched c (outOf (answer 0 count 0 0 nought) (left .words) (left .floats) (outs .ids) (outs .dists))
         unfolding answer
-        done e q =
-            record {
-              is = ap (λ (x : Answer). outOf x (left .words) (left .floats) (outs .ids) (outs .dists)) q ∙ done-is;
-              few = subst (λ (x : Answer). x .count ≤ mostAnswers (c .beam) (c .k)) (sym q) few;
-            }
+        done = record { is = done-is; few = few }

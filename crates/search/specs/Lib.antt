@@ -1,5 +1,4 @@
--- Search: the answers' order against the beam's, and what a search leaves.
-pub mod Listing
+-- Search: the answers from the keys that a walk leaves, and what a search leaves.
 pub mod Answering
 pub mod Statement
 pub mod Reading

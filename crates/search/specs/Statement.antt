@@ -19,6 +19,10 @@ pub record Searched (c : SearchCall) (o : SearchOut) : Type 0 where
   pub is : o ≡ searchDone c
   pub few : o .answer .count ≤ mostAnswers (c .beam) (c .k)
 
+pub searched-same : {c : SearchCall} {a r : Answer} {words : List ℕ} {floats : List Float} {ids : List ℕ} {dists : List Float}
+    → r ≡ a → Searched c (outOf a words floats ids dists) → Searched c (outOf r words floats ids dists)
+searched-same {c} {words = words} {floats} {ids} {dists} e s = subst (λ (b : Answer). Searched c (outOf b words floats ids dists)) (sym e) s
+
 -- r is the number of the search c with a run of `run` records beside its two outputs
 abbrev pub NumberedBeside : SearchCall → ℕ → ℕ → Type 0
 NumberedBeside c run r =

@@ -1,12 +1,13 @@
-// Part 9. Search: the greedy walk with the beam raised to at least 1; answers by distance, then id, cut to k. And lookup, the same walk on a table whose words
-// nobody looks at before.
+// Part 9. Search: the greedy walk with the beam raised to at least 1; answers by distance, then the higher id, cut to k. And lookup, the same walk on a
+// table whose words nobody looks at before.
 
 use definition::Answer;
 use greedy::Plan;
 ghost use mathlib.Core.Path.{_≡_};
 ghost use Prim.Native.Nat.{_≤_, max};
 ghost use lib.ListN.{length};
-ghost use Rattle.definition.specs.Outcome.{SearchMeets, cleanedCall, LookupMeets, fitOut};
+ghost use Rattle.definition.specs.Floats.{nought};
+ghost use Rattle.definition.specs.Outcome.{answer, SearchMeets, cleanedCall, LookupMeets, fitOut};
 ghost use Rattle.scratch.specs.Lent.{lent};
 ghost use Rattle.scratch.specs.Layout.{searchEnd, searchFloatsEnd};
 ghost use Rattle.accepted.specs.Search.{SearchAccepted as Accepted};
@@ -35,7 +36,7 @@ fn wipe(words: &mut [u32], floats: &mut [f32], n: usize)
 }
 
 // A lookup that no check refuses, for a caller who holds the proof of it: no check is made, and no pass over the table. The walk reads a word that is no entry
-// as padding.
+// as padding. It gives how many answers there are and no more: a record that goes back through three calls costs each of them stack.
 pub fn lookup_accepted(
     n: usize,
     dim: usize,
@@ -50,13 +51,13 @@ pub fn lookup_accepted(
     floats: &mut [f32],
     ids: &mut [u32],
     dists: &mut [f32],
-) -> Answer
+) -> usize
     requires { ⌜ Accepted (cleanedCall
         (callOf n dim (now vectors) degree beam k start (now table) (now query) (now words) (now floats) (now ids) (now dists))) ⌝ }
     ensures { λ r. ⌜ Searched
         (cleanedCall (callOf n dim (now (vectors .entry)) degree beam k start (now (table .entry)) (now (query .entry))
         (now (words .entry)) (now (floats .entry)) (now (ids .entry)) (now (dists .entry))))
-        (outOf r (now (words .exit)) (now (floats .exit)) (now (ids .exit)) (now (dists .exit))) ⌝ }
+        (outOf (answer 0 r 0 0 nought) (now (words .exit)) (now (floats .exit)) (now (ids .exit)) (now (dists .exit))) ⌝ }
 {
     let mut keys = [beam::NONE; 256];
     let most = raised(beam);
@@ -70,9 +71,9 @@ pub fn lookup_accepted(
     scratch::clear_words(&mut words[0..n]);
     let walked = greedy::greedy(words, &mut keys, vectors, query, table, p, 1, start);
     let count = laws::least(k, walked.work);
-    listing::list_answers(&keys, count, ids, dists);
+    listing::list_answers(&keys, walked.work, count, ids, dists);
     wipe(words, floats, n);
-    answers::found(count)
+    count
 }
 
 // A search that no check refuses: its table keeps the search rule, so that it is the lookup.
@@ -97,7 +98,7 @@ pub fn search_accepted(
         (now (words .entry)) (now (floats .entry)) (now (ids .entry)) (now (dists .entry)))
         (outOf r (now (words .exit)) (now (floats .exit)) (now (ids .exit)) (now (dists .exit))) ⌝ }
 {
-    lookup_accepted(
+    let count = lookup_accepted(
         n,
         dim,
         vectors,
@@ -111,7 +112,8 @@ pub fn search_accepted(
         floats,
         ids,
         dists,
-    )
+    );
+    answers::found(count)
 }
 
 // The answers of a search in `ids` and `dists`, best first, and how many they are; or the number of the refusal, which is known from lengths and from what is
@@ -238,7 +240,7 @@ pub fn lookup(
     if refusal != 0 {
         return answers::refused(refusal);
     }
-    lookup_accepted(
+    let count = lookup_accepted(
         n,
         dim,
         vectors,
@@ -252,7 +254,8 @@ pub fn lookup(
         floats,
         ids,
         dists,
-    )
+    );
+    answers::found(count)
 }
 
 // The number that a search would give for its table: a table that is searched many times is asked once, and `lookup` then answers as `search` does.

@@ -164,12 +164,12 @@ unfolding shown buildCall tenVectors tenOrder tenSeeds tenOpening tenCall tenWid
 ten-built = refl
 
 pub ten-search0 : pairs (answers (fromQuery 1 tenVectors (102 ∷ [])) (row 2 tenClosed) 10 3 1 3)
-    ≡ 0 ∷ 0 ∷ 1 ∷ 1 ∷ 3 ∷ 1 ∷ []
+    ≡ 0 ∷ 0 ∷ 3 ∷ 1 ∷ 1 ∷ 1 ∷ []
 unfolding pairs tenVectors tenClosed opened
 ten-search0 = refl
 
 pub ten-search1 : pairs (answers (fromQuery 1 tenVectors (100 ∷ [])) (row 2 tenClosed) 10 3 1 3)
-    ≡ 2 ∷ 1 ∷ 7 ∷ 1 ∷ 0 ∷ 4 ∷ []
+    ≡ 7 ∷ 1 ∷ 2 ∷ 1 ∷ 0 ∷ 4 ∷ []
 unfolding pairs tenVectors tenClosed opened
 ten-search1 = refl
 
@@ -230,12 +230,12 @@ unfolding shown buildCall thirteenVectors thirteenOrder thirteenSeeds thirteenOp
 thirteen-built = refl
 
 pub thirteen-search0 : pairs (answers (fromQuery 2 thirteenVectors (101 ∷ 101 ∷ [])) (row 5 thirteenClosed) 13 6 10 6)
-    ≡ 5 ∷ 0 ∷ 0 ∷ 1 ∷ 6 ∷ 1 ∷ 8 ∷ 1 ∷ 1 ∷ 4 ∷ 3 ∷ 5 ∷ []
+    ≡ 5 ∷ 0 ∷ 8 ∷ 1 ∷ 6 ∷ 1 ∷ 0 ∷ 1 ∷ 1 ∷ 4 ∷ 3 ∷ 5 ∷ []
 unfolding pairs thirteenVectors thirteenClosed opened
 thirteen-search0 = refl
 
 pub thirteen-search1 : pairs (answers (fromQuery 2 thirteenVectors (103 ∷ 101 ∷ [])) (row 5 thirteenClosed) 13 6 10 6)
-    ≡ 1 ∷ 0 ∷ 0 ∷ 1 ∷ 3 ∷ 1 ∷ 5 ∷ 4 ∷ 10 ∷ 4 ∷ 6 ∷ 5 ∷ []
+    ≡ 1 ∷ 0 ∷ 3 ∷ 1 ∷ 0 ∷ 1 ∷ 10 ∷ 4 ∷ 5 ∷ 4 ∷ 6 ∷ 5 ∷ []
 unfolding pairs thirteenVectors thirteenClosed opened
 thirteen-search1 = refl
 

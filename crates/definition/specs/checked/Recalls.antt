@@ -54,14 +54,14 @@ lineReport beam k queries = counts (reportOut (reportCall line beam k queries) .
 
 unfoldable pub recalls : List Sample
 recalls =
-    -- the line, query 25 and query 38, k 2: of equal distances the lower id first; what lies beyond the answers is untouched
-    case (lineNear 25 2 3) ((0 ∷ 2 ∷ 0 ∷ 0 ∷ 0 ∷ []) ∷ (1 ∷ 2 ∷ 7 ∷ []) ∷ (25 ∷ 25 ∷ 0 ∷ []) ∷ []) ∷
+    -- the line, query 25 and query 38, k 2: of equal distances the higher id first; what lies beyond the answers is untouched
+    case (lineNear 25 2 3) ((0 ∷ 2 ∷ 0 ∷ 0 ∷ 0 ∷ []) ∷ (2 ∷ 1 ∷ 7 ∷ []) ∷ (25 ∷ 25 ∷ 0 ∷ []) ∷ []) ∷
     case (lineNear 38 2 2) ((0 ∷ 2 ∷ 0 ∷ 0 ∷ 0 ∷ []) ∷ (3 ∷ 2 ∷ []) ∷ (4 ∷ 64 ∷ []) ∷ []) ∷
-    -- k above n: all four; and of equals at the cut the lower id
-    case (lineNear 25 256 4) ((0 ∷ 4 ∷ 0 ∷ 0 ∷ 0 ∷ []) ∷ (1 ∷ 2 ∷ 0 ∷ 3 ∷ []) ∷ (25 ∷ 25 ∷ 225 ∷ 225 ∷ []) ∷ []) ∷
-    case (lineNear 25 1 1) ((0 ∷ 1 ∷ 0 ∷ 0 ∷ 0 ∷ []) ∷ (1 ∷ []) ∷ (25 ∷ []) ∷ []) ∷
+    -- k above n: all four; and of equals at the cut the higher id
+    case (lineNear 25 256 4) ((0 ∷ 4 ∷ 0 ∷ 0 ∷ 0 ∷ []) ∷ (2 ∷ 1 ∷ 3 ∷ 0 ∷ []) ∷ (25 ∷ 25 ∷ 225 ∷ 225 ∷ []) ∷ []) ∷
+    case (lineNear 25 1 1) ((0 ∷ 1 ∷ 0 ∷ 0 ∷ 0 ∷ []) ∷ (2 ∷ []) ∷ (25 ∷ []) ∷ []) ∷
     -- entry 3 at 0, which a search with beam 2 misses
-    case (toldNear (exhaustiveOut (nearCall missed (25 ∷ []) 2 2))) ((0 ∷ 2 ∷ 0 ∷ 0 ∷ 0 ∷ []) ∷ (3 ∷ 1 ∷ []) ∷ (0 ∷ 25 ∷ []) ∷ []) ∷
+    case (toldNear (exhaustiveOut (nearCall missed (25 ∷ []) 2 2))) ((0 ∷ 2 ∷ 0 ∷ 0 ∷ 0 ∷ []) ∷ (3 ∷ 2 ∷ []) ∷ (0 ∷ 25 ∷ []) ∷ []) ∷
     -- refused, and nothing differs: 10 before 11 before 14; k 0 asks for no room
     case (lineNear 25 2 1) ((10 ∷ 0 ∷ 0 ∷ 0 ∷ 0 ∷ []) ∷ (7 ∷ []) ∷ (0 ∷ []) ∷ []) ∷
     case₁ (map exhaustiveNumber (nearCall line [] 257 3 ∷ nearCall line [] 257 4 ∷ nearCall line (25 ∷ []) 257 4 ∷ nearCall line (25 ∷ []) 0 0 ∷ []))

@@ -89,10 +89,10 @@ samples =
     case (lineSearch line 38 1 2) ((0 ∷ 1 ∷ []) ∷ (0 ∷ []) ∷ (784 ∷ []) ∷ []) ∷
     case (lineSearch line 38 0 2) ((0 ∷ 1 ∷ []) ∷ (0 ∷ []) ∷ (784 ∷ []) ∷ []) ∷
     case (lineSearch line 38 8 8) ((0 ∷ 4 ∷ []) ∷ (3 ∷ 2 ∷ 1 ∷ 0 ∷ []) ∷ (4 ∷ 64 ∷ 324 ∷ 784 ∷ []) ∷ []) ∷
-    -- line, query 25, beam 4, k 4
-    case (lineSearch line 25 4 4) ((0 ∷ 4 ∷ []) ∷ (1 ∷ 2 ∷ 0 ∷ 3 ∷ []) ∷ (25 ∷ 25 ∷ 225 ∷ 225 ∷ []) ∷ []) ∷
-    -- vectors 10, 20, 30, 25, query 25, beam 2, k 2: entry 3 at 0 is missed
-    case (lineSearch (10 ∷ 20 ∷ 30 ∷ 25 ∷ []) 25 2 2) ((0 ∷ 2 ∷ []) ∷ (1 ∷ 2 ∷ []) ∷ (25 ∷ 25 ∷ []) ∷ []) ∷
+    -- line, query 25, beam 4, k 4 (as 3/13 gives it)
+    case (lineSearch line 25 4 4) ((0 ∷ 4 ∷ []) ∷ (2 ∷ 1 ∷ 3 ∷ 0 ∷ []) ∷ (25 ∷ 25 ∷ 225 ∷ 225 ∷ []) ∷ []) ∷
+    -- vectors 10, 20, 30, 25, query 25, beam 2, k 2: entry 3 at 0 is missed (as 3/13 gives it)
+    case (lineSearch (10 ∷ 20 ∷ 30 ∷ 25 ∷ []) 25 2 2) ((0 ∷ 2 ∷ []) ∷ (2 ∷ 1 ∷ []) ∷ (25 ∷ 25 ∷ []) ∷ []) ∷
     -- pruning (0,0) with (20,0), (11,18), (0,30): alpha 1.0, alpha 1.2
     case₁ (pruned (0 ∷ 0 ∷ 20 ∷ 0 ∷ 11 ∷ 18 ∷ 0 ∷ 30 ∷ []) (1 ∷ 2 ∷ 3 ∷ []) 0x3F800000) (1 ∷ 3 ∷ []) ∷
     case₁ (pruned (0 ∷ 0 ∷ 20 ∷ 0 ∷ 11 ∷ 18 ∷ 0 ∷ 30 ∷ []) (1 ∷ 2 ∷ 3 ∷ []) 0x3F99999A) (1 ∷ 3 ∷ 2 ∷ []) ∷

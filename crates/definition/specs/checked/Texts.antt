@@ -27,6 +27,10 @@ texts =
     -- document 01's input; with further spaces and newlines
     prints "4 1 2 0 2 2 10 20 30 40 1 - 0 2 1 3 2 - 38" "2\n3 4\n2 64\n" ∷
     prints "\n 4 1  2 0 2\n2 10 20 30 40 1 - 0 2 1 3 2 - 38\n" "2\n3 4\n2 64\n" ∷
+    -- equal distances: the line and query 25 with beam 4, and cut to 3; the case that misses entry 3
+    prints "4 1 2 0 4 4 10 20 30 40 1 - 0 2 1 3 2 - 25" "4\n2 25\n1 25\n3 225\n0 225\n" ∷
+    prints "4 1 2 0 4 3 10 20 30 40 1 - 0 2 1 3 2 - 25" "3\n2 25\n1 25\n3 225\n" ∷
+    prints "4 1 2 0 2 2 10 20 30 25 1 - 0 2 1 3 2 - 25" "2\n2 25\n1 25\n" ∷
     -- malformed: a word more, a word fewer, a sample of 256, `-` for a sample, nothing at all, a tab, six digits
     prints "4 1 2 0 2 2 10 20 30 40 1 - 0 2 1 3 2 - 38 9" "refused 13\n" ∷
     prints "4 1 2 0 2 2 10 20 30 40 1 - 0 2 1 3 2 -" "refused 13\n" ∷

@@ -2,7 +2,7 @@
 use Rattle.definition.specs.Refusals.{SearchCall}
 use Rattle.definition.specs.Outcome.{cleanedCall}
 use Rattle.checks_number.specs.SearchNumber.{callOf}
-use Rattle.search.specs.Statement.{beside-accepted, search-refused, search-done, lookup-meets}
+use Rattle.search.specs.Statement.{searched-same, beside-accepted, search-refused, search-done, lookup-meets}
 use borrow.Author.Needs.{needs}
 use Rattle.search.proofs.lookup.Statement.{statement}
 use Rattle.search.proofs.lookup.Tie as tie
@@ -34,6 +34,9 @@ lookup-accepted-requires c κs =
     let s = n .before .before .before .before .before .before .before .before in
     beside-accepted (asked s) _ _ (n .lookup-number .ensures) (c .before .before .before .before .if1 .left) .0
 
+found-requires : tie.Need-found-requires
+found-requires c κs = search needs
+
 same-length : tie.Need-same-length
 same-length c = search needs
 
@@ -49,11 +52,12 @@ same-length-4 c = search needs
 returns-2 : tie.Need-returns-2
 unfolding cleanedCall
 returns-2 c =
-    let k = c .before .before .before .before .before .before .before .before in
+    let k = c .before .before .before .before .before .before .before .before .before in
     let n = k .before .before .before .before .before .before in
     let s = n .before .before .before .before .before .before .before .before in
     lookup-meets _ _
-    (search-done (asked s) _ (n .lookup-number .ensures) (k .before .before .before .before .before .if1 .left) _ (k .lookup-accepted .ensures))
+    (search-done (asked s) _ (n .lookup-number .ensures) (k .before .before .before .before .before .if1 .left) _
+    (searched-same (c .found .ensures) (k .lookup-accepted .ensures)))
 
 pub lookup-spec : {M : Type 1} → statement M
 lookup-spec =
@@ -63,6 +67,7 @@ lookup-spec =
     refused-requires
     returns
     lookup-accepted-requires
+    found-requires
     same-length
     same-length-2
     same-length-3

@@ -1,7 +1,5 @@
 -- `lookup_accepted`. The walk may begin, its work may be listed from the keys, the room may be wiped.
-use mathlib.Core.Path.{_≡_, refl, _∙_}
-use native.Mathlib.Omega.{arith}
-use lib.ListN.{length}
+use mathlib.Core.Path.{refl, _∙_}
 use Rattle.definition.specs.Refusals.{SearchCall}
 use Rattle.definition.specs.Outcome.{cleanedCall}
 use Rattle.checks_number.specs.SearchNumber.{callOf}
@@ -71,10 +69,8 @@ list-answers-requires c κs =
     let g = l .before .before .before .before in
     let s = at-walk g in
     let k = marked g in
-    let size : length (g .greedy .last .1 .0) ≡ 256 = g .greedy .kept .1 .0 in
-    let room = list-room (asked s) (s .pre) (s .args .table .now) refl _ (k .clear-words .ensures) _ (k .before .before .raised .ensures)
-    _ _ _ (g .greedy .ensures) _ (l .least .ensures) in
-    (omega (arith, room .0), room .1, room .2)
+    list-room (asked s) (s .pre) (s .args .table .now) refl _ (k .clear-words .ensures) _ (k .before .before .raised .ensures)
+    _ _ _ (g .greedy .ensures) _ (l .least .ensures) (g .greedy .kept .1 .0)
 
 wipe-requires : tie.Need-wipe-requires
 unfolding cleanedCall
@@ -86,13 +82,10 @@ wipe-requires c κs =
     wipe-room (asked s) (s .pre) (s .args .table .now) refl _ (k .clear-words .ensures) _ (k .before .before .raised .ensures)
     _ _ _ (g .greedy .ensures) _ (l .least .ensures)
 
-found-requires : tie.Need-found-requires
-found-requires c κs = search needs
-
 same-length : tie.Need-same-length
 unfolding cleanedCall
 same-length c =
-    let w = c .before .before .before .before .before in
+    let w = c .before .before .before .before in
     let g = w .before .before .before .before .before .before .before .before .before .before .before .before .before .before .before in
     let s = at-walk g in
     let k = marked g in
@@ -111,14 +104,14 @@ same-length-4 c = search needs
 returns : tie.Need-returns
 unfolding cleanedCall
 returns c =
-    let w = c .before .before .before .before .before in
+    let w = c .before .before .before .before in
     let t = w .before .before .before .before .before .before .before in
     let l = t .before .before .before .before in
     let g = l .before .before .before .before in
     let s = at-walk g in
     let k = marked g in
     done (asked s) (s .pre) (s .args .table .now) refl _ (k .clear-words .ensures) _ (k .before .before .raised .ensures)
-    _ _ _ (g .greedy .ensures) _ (l .least .ensures) _ (t .list-answers .ensures) _ (w .wipe .ensures) _ (c .found .ensures)
+    _ _ _ (g .greedy .ensures) _ (l .least .ensures) _ (t .list-answers .ensures) _ (w .wipe .ensures)
 
 pub lookup-accepted-spec : {M : Type 1} → statement M
 lookup-accepted-spec =
@@ -135,7 +128,6 @@ lookup-accepted-spec =
     slice-aggregate-list-answers
     list-answers-requires
     wipe-requires
-    found-requires
     same-length
     same-length-2
     same-length-3

@@ -1,7 +1,7 @@
 -- `search_accepted`. Its table keeps the search rule, so that the call as cleaned is the call.
 use Rattle.definition.specs.Refusals.{SearchCall}
 use Rattle.checks_number.specs.SearchNumber.{callOf}
-use Rattle.search.specs.Statement.{cleaned-accepted, cleaned-searched}
+use Rattle.search.specs.Statement.{searched-same, cleaned-accepted, cleaned-searched}
 use borrow.Author.Needs.{needs}
 use Rattle.search.proofs.search_accepted.Statement.{statement}
 use Rattle.search.proofs.search_accepted.Tie as tie
@@ -18,6 +18,9 @@ lookup-accepted-requires c κs =
     let s = c .before .before .before .before .before .before .before .before .before .before .before in
     cleaned-accepted (asked s) (s .pre)
 
+found-requires : tie.Need-found-requires
+found-requires c κs = search needs
+
 same-length : tie.Need-same-length
 same-length c = search needs
 
@@ -32,15 +35,16 @@ same-length-4 c = search needs
 
 returns : tie.Need-returns
 returns c =
-    let l = c .before .before .before .before .before .before .before .before in
+    let l = c .before .before .before .before .before .before .before .before .before in
     let s = l .before .before .before .before .before .before .before .before .before .before .before .before in
-    cleaned-searched (asked s) (s .pre) _ (l .lookup-accepted .ensures)
+    searched-same (c .found .ensures) (cleaned-searched (asked s) (s .pre) _ (l .lookup-accepted .ensures))
 
 pub search-accepted-spec : {M : Type 1} → statement M
 search-accepted-spec =
     tie.close
     (tie.spec
     lookup-accepted-requires
+    found-requires
     same-length
     same-length-2
     same-length-3
