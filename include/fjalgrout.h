@@ -28,7 +28,7 @@
  * Search rule: every word is padding or an id below n. Batch, open, close and build read tables under the build rule; search, records, report and fit under
  * the search rule; lookup under none.
  *
- * Stack that a call needs, in bytes, as bin/stack measures it: batch and build 27,600, open and close 17,600, report 7,800, lookup, search and records 3,900,
+ * Stack that a call needs, in bytes, as bin/stack measures it: batch and build 27,600, open and close 17,600, report 8,200, lookup, search and records 4,050,
  * exhaustive 2,400, every other call 200.
  * bin/stack fails where one needs more than 32 KiB, or a search 4 KiB. No call uses the heap.
  */
@@ -162,7 +162,8 @@ fjalgrout_answer fjalgrout_build(size_t n, size_t dim, const uint8_t *vectors, s
                                  size_t opening_count, uint32_t *wide, size_t wide_count, uint32_t *closed, size_t closed_count, uint32_t *words,
                                  size_t words_count, float *floats, size_t floats_count);
 
-/* Search: for a table that nobody has checked. `count` answers by distance, then id, as ids and distances; the outputs beyond them are untouched. Beam 0 acts as 1, k = 0 gives no answers.
+/* Search: for a table that nobody has checked. `count` answers by distance, then the higher id, as ids and distances; of equals at the cut to k the higher
+ * ids. The outputs beyond them are untouched. Beam 0 acts as 1, k = 0 gives no answers. What a full beam keeps is another matter: of equals the lower id.
  * There are at most most_answers of them, min(k, max(beam, 1)). Fewer than that are all that the rows lead to from the start. As many as that: an entry
  * that is missing can be reached only by passing some entry that is no nearer than the last answer. (It may be nearer itself: the search is greedy.)
  * Room: search_words, search_floats; each output most_answers. Numbers 1, 2, 3, 4, 6, 8, 10, 11. */
@@ -171,9 +172,9 @@ fjalgrout_answer fjalgrout_search(size_t n, size_t dim, const uint8_t *vectors, 
                                   uint32_t *words, size_t words_count, float *floats, size_t floats_count, uint32_t *ids, size_t ids_count,
                                   float *dists, size_t dists_count);
 
-/* Lookup: what a tower calls. The same search, over the same table, outputs and room, without the pass over the table: 8 is given for its length alone,
- * and a word that is no id below n reads as padding. So it is safe on every table, and where fit gives 0 it is search itself, refusals included. Where it
- * does not, the answers are those of the table with padding in place of every such word. Numbers 1, 2, 3, 4, 6, 8, 10, 11. */
+/* Lookup: what a tower calls. The same search, over the same table, outputs and room and in the same order, without the pass over the table: 8 is given for
+ * its length alone, and a word that is no id below n reads as padding. So it is safe on every table, and where fit gives 0 it is search itself, refusals
+ * included. Where it does not, the answers are those of the table with padding in place of every such word. Numbers 1, 2, 3, 4, 6, 8, 10, 11. */
 fjalgrout_answer fjalgrout_lookup(size_t n, size_t dim, const uint8_t *vectors, size_t vectors_count, size_t degree, size_t beam, size_t k,
                                   uint32_t start, const uint32_t *table, size_t table_count, const uint8_t *query, size_t query_count,
                                   uint32_t *words, size_t words_count, float *floats, size_t floats_count, uint32_t *ids, size_t ids_count,
@@ -183,19 +184,21 @@ fjalgrout_answer fjalgrout_lookup(size_t n, size_t dim, const uint8_t *vectors, 
  * 3, 8. */
 fjalgrout_answer fjalgrout_fit(size_t n, size_t degree, const uint32_t *table, size_t table_count);
 
-/* Exhaustive: the true nearest, from the distances to all n entries and with no table. min(k, n) answers by distance, then id, as ids and distances; the
- * outputs beyond them are untouched. Each output must have room for most_nearest, min(k, n). Numbers 1, 2, 10, 11, 14. */
+/* Exhaustive: the true nearest, from the distances to all n entries and with no table. min(k, n) answers by distance, then the higher id, as ids and
+ * distances; of equals at the cut to k the higher ids. The outputs beyond them are untouched. Each output must have room for most_nearest, min(k, n).
+ * Numbers 1, 2, 10, 11, 14. */
 fjalgrout_answer fjalgrout_exhaustive(size_t n, size_t dim, const uint8_t *vectors, size_t vectors_count, size_t k, const uint8_t *query,
                                       size_t query_count, uint32_t *ids, size_t ids_count, float *dists, size_t dists_count);
 
 /* Report: how many of the true nearest the search brings, in whole numbers. `queries` holds up to 65,535 of them one after another, dim bytes each, and may
  * be empty. Each is searched for, as fjalgrout_search does with this table, start, beam and k, and then exhaustively; an answer is found where its id is
- * among the nearest. Room: report_words, report_floats. Numbers 1, 2, 3, 4, 6, 8, 10, 11, 14. */
+ * among the nearest: where the cut to k divides equals, one of a lower id is not, though it is as near. Room: report_words, report_floats.
+ * Numbers 1, 2, 3, 4, 6, 8, 10, 11, 14. */
 struct fjalgrout_report fjalgrout_report(size_t n, size_t dim, const uint8_t *vectors, size_t vectors_count, size_t degree, size_t beam, size_t k,
                                          uint32_t start, const uint32_t *table, size_t table_count, const uint8_t *queries, size_t queries_count,
                                          uint32_t *words, size_t words_count, float *floats, size_t floats_count);
 
-/* The same search, and its answers once more as a run of records, best first; records beyond the answers are untouched. The run, too, must have room
+/* The same search, and its answers once more as a run of records, in their order; records beyond the answers are untouched. The run, too, must have room
  * for most_answers records. Numbers 1, 2, 3, 4, 6, 8, 10, 11. */
 fjalgrout_answer fjalgrout_records(size_t n, size_t dim, const uint8_t *vectors, size_t vectors_count, size_t degree, size_t beam, size_t k,
                                    uint32_t start, const uint32_t *table, size_t table_count, const uint8_t *query, size_t query_count,

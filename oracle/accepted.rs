@@ -6,6 +6,7 @@ use crate::ours::{self, slack, Answer, Candidate, Params, DONE};
 use crate::recall;
 use crate::tally::{note, note_if};
 use diskann::probe;
+use std::cmp::Ordering;
 
 fn params(p: Params) -> probe::Params {
     probe::Params { degree: p.degree, beam: p.beam, alpha: p.alpha, extra: p.extra }
@@ -88,6 +89,26 @@ fn call_on(r: &mut Rng, call: Call, s: ours::Search) -> Searched {
     Searched { answer, words, floats, ids, dists, run }
 }
 
+/// 000's own answer, as many as the beam holds, in our order.
+fn answers_of_000(d: &Data, table: &[u32], query: &[u8], beam: usize) -> Vec<(u32, f32)> {
+    let (n, dim, degree, start) = (d.n, d.dim, d.params.degree, d.start);
+    // 000 would follow a word that is no id, so it has the table as lookup reads it: the table itself, where every word is one or padding
+    let read = cleaned(n, table);
+    probe::search(probe::Search { dim, vectors: &d.vectors, degree, table: &read, query, start, beam })
+}
+
+/// One call, whose answers must be the first k of these.
+fn call_beside(r: &mut Rng, call: Call, given: ours::Search, listed: &[(u32, f32)]) {
+    let (want_ids, want_dists): (Vec<u32>, Vec<f32>) = listed.iter().copied().take(given.k).unzip();
+    let records = want_ids.iter().zip(&want_dists).map(|(&id, &distance)| Candidate { id, distance });
+    let want_run: Vec<Candidate> = records.filter(|_| call == Call::Records).collect();
+    let got = call_on(r, call, given);
+    must(ours::same(got.answer, Answer { count: want_ids.len(), ..DONE }), "search: answer");
+    must(got.ids.begins(&want_ids) && got.dists.begins(&want_dists), "search: answers, and nothing beyond them");
+    must(got.run.begins(&want_run), "search: records, and nothing beyond them");
+    must(got.words.cleared(2 * given.n + 256) && got.floats.cleared(given.n + 256), "search: room");
+}
+
 fn search_on(r: &mut Rng, d: &Data, table: &[u32], call: Call) {
     let (n, dim, degree, start) = (d.n, d.dim, d.params.degree, d.start);
     let beam = match r.below(5) {
@@ -96,10 +117,8 @@ fn search_on(r: &mut Rng, d: &Data, table: &[u32], call: Call) {
         _ => 1 + r.below(40),
     };
     let query = query(r, d);
-    // 000 would follow a word that is no id, so it has the table as lookup reads it: the table itself, where every word is one or padding
-    let read = cleaned(n, table);
-    let want = probe::search(probe::Search { dim, vectors: &d.vectors, degree, table: &read, query: &query, start, beam });
-    // k = beam is 000's own answer; another k cuts that list, lower ids first
+    let want = answers_of_000(d, table, &query, beam);
+    // k = beam is 000's own answer; another k cuts that list, and of equals at the cut the higher ids stay
     let k = match r.below(4) {
         0 => r.below(beam + 3),
         1 => 100_000,
@@ -112,14 +131,7 @@ fn search_on(r: &mut Rng, d: &Data, table: &[u32], call: Call) {
     note_if(want.len() == beam, "as many answers as the beam");
     note_if(want.windows(2).any(|w| w[0].1 == w[1].1), "equal distances among answers");
     let given = ours::Search { n, dim, vectors: &d.vectors, degree, beam, k, start, table, query: &query };
-    let (want_ids, want_dists): (Vec<u32>, Vec<f32>) = want.into_iter().take(k).unzip();
-    let records = want_ids.iter().zip(&want_dists).map(|(&id, &distance)| Candidate { id, distance });
-    let want_run: Vec<Candidate> = records.filter(|_| call == Call::Records).collect();
-    let got = call_on(r, call, given);
-    must(ours::same(got.answer, Answer { count: want_ids.len(), ..DONE }), "search: answer");
-    must(got.ids.begins(&want_ids) && got.dists.begins(&want_dists), "search: answers, and nothing beyond them");
-    must(got.run.begins(&want_run), "search: records, and nothing beyond them");
-    must(got.words.cleared(2 * n + 256) && got.floats.cleared(n + 256), "search: room");
+    call_beside(r, call, given, &want);
 }
 
 fn any_search(r: &mut Rng, n: usize, call: Call) {
@@ -164,18 +176,23 @@ fn note_asked(n: usize, k: usize) {
 /// The k nearest of all entries, beside all distances sorted and cut.
 pub fn exhaustive(r: &mut Rng, n: usize) {
     let d = data_for_all(r, n);
-    let (n, dim) = (d.n, d.dim);
+    let n = d.n;
     let (k, query) = (nearest_asked(r, n), query(r, &d));
-    let all = recall::nearest(dim, &d.vectors, n, &query);
+    let all = recall::nearest(d.dim, &d.vectors, n, &query);
     note_limits(&d);
     note_asked(n, k);
     note_if(all.windows(2).take(k).any(|w| w[0].1 == w[1].1), "equal distances among the nearest");
     note_if(k < n && all[k - 1].1 == all[k].1, "equal distances at the cut");
-    let (want_ids, want_dists): (Vec<u32>, Vec<f32>) = recall::nearest(dim, &d.vectors, k, &query).into_iter().unzip();
+    exhaustive_beside(r, &d, k, &query);
+}
+
+fn exhaustive_beside(r: &mut Rng, d: &Data, k: usize, query: &[u8]) {
+    let (n, dim) = (d.n, d.dim);
+    let (want_ids, want_dists): (Vec<u32>, Vec<f32>) = recall::nearest(dim, &d.vectors, k, query).into_iter().unzip();
     let more = r.below(3) * MORE;
     let (mut ids, mut dists) = (pattern(r, k.min(n) + more), pattern(r, k.min(n) + more));
-    let call = ours::Exhaustive { n, dim, vectors: &d.vectors, k, query: &query };
-    let got = reads(&[&d.vectors, &query], &[], || ours::exhaustive(call, ids.lend(), dists.lend()));
+    let call = ours::Exhaustive { n, dim, vectors: &d.vectors, k, query };
+    let got = reads(&[&d.vectors, query], &[], || ours::exhaustive(call, ids.lend(), dists.lend()));
     must(ours::same(got, Answer { count: k.min(n), ..DONE }), "exhaustive: answer");
     must(ids.begins(&want_ids) && dists.begins(&want_dists), "exhaustive: the nearest, and nothing beyond them");
 }
@@ -222,11 +239,77 @@ pub fn report(r: &mut Rng, n: usize) {
     note_if(want.whole > 0, "a query with all found");
     note_if(hits.contains(&0), "a query with none found");
     note_if(hits.iter().any(|h| h + 1 == k.min(n)), "a query with one missing");
+    report_beside(r, call, want);
+}
+
+fn report_beside(r: &mut Rng, call: ours::Recall, want: ours::Report) {
+    let n = call.n;
     let more = r.below(3) * MORE;
     let (mut words, mut floats) = (pattern(r, 2 * n + 768 + more), pattern(r, n + 768 + more));
-    let got = reads(&[&d.vectors, &queries], &[&table], || ours::report(call, words.lend(), floats.lend()));
+    let got = reads(&[call.vectors, call.queries], &[call.table], || ours::report(call, words.lend(), floats.lend()));
     must(got == want, "report: the four numbers");
     must(words.cleared(2 * n + 768) && floats.cleared(n + 768), "report: room");
+}
+
+/// At its limits, or one that mostly fills.
+fn tied_beam(r: &mut Rng, n: usize) -> usize {
+    match r.below(12) {
+        0 => 0,
+        1 => 1,
+        2 => 2,
+        3 => 256,
+        _ => 2 + r.below(n.min(60)),
+    }
+}
+
+/// Below the beam, as it, or above it, a third each; below, half of them cut what 000 found.
+fn tied_k(r: &mut Rng, beam: usize, found: usize) -> usize {
+    match r.below(6) {
+        0 => r.below(beam.max(1)),
+        1 => r.below(found),
+        2 | 3 => beam.max(1),
+        4 => beam.max(1) + 1 + r.below(3),
+        _ => r.pick(&[257, 100_000, usize::MAX]),
+    }
+}
+
+fn note_ties(listed: &[(u32, f32)], beam: usize, k: usize) {
+    let equal = |w: &[(u32, f32)]| w.iter().all(|p| p.1 == w[0].1);
+    note(match k.cmp(&beam.max(1)) {
+        Ordering::Less => "k below the beam",
+        Ordering::Equal => "k at the beam",
+        Ordering::Greater => "k above the beam",
+    });
+    note_if(k == 0, "k 0");
+    note_if(beam == 0, "search beam 0");
+    note_if(beam == 1, "search beam 1");
+    note_if(beam == 256, "search beam 256");
+    note_if(listed.len() == beam, "as many answers as the beam");
+    note_if(k > 0 && k < listed.len() && equal(&listed[k - 1..=k]), "the cut divides equals");
+    note_if(listed.windows(3).any(equal), "a run of three or more equals");
+    note_if(listed.len() > 1 && equal(listed), "all answers equally far");
+}
+
+/// Data full of equals: every call that lists answers, and the report of one query, on the same input.
+pub fn ties(r: &mut Rng, n: usize) {
+    let d = tied(r, n);
+    let (n, dim, degree, start) = (d.n, d.dim, d.params.degree, d.start);
+    let table = led(r, &d);
+    let query = tied_query(r, &d);
+    let beam = tied_beam(r, n);
+    let listed = answers_of_000(&d, &table, &query, beam);
+    let k = tied_k(r, beam, listed.len());
+    note_limits(&d);
+    note_ties(&listed, beam, k);
+    let given = ours::Search { n, dim, vectors: &d.vectors, degree, beam, k, start, table: &table, query: &query };
+    [Call::Search, Call::Records, Call::Lookup].into_iter().for_each(|call| call_beside(r, call, given, &listed));
+    // the other two take no k but 1 to 256
+    let k = k.clamp(1, 256);
+    let all = recall::nearest(dim, &d.vectors, n, &query);
+    note_if(k < n && all[k - 1].1 == all[k].1, "the cut of all entries divides equals");
+    exhaustive_beside(r, &d, k, &query);
+    let call = ours::Recall { n, dim, vectors: &d.vectors, degree, beam, k, start, table: &table, queries: &query };
+    report_beside(r, call, recall::report(call, &recall::hits(call)));
 }
 
 pub fn batch(r: &mut Rng, n: usize) {

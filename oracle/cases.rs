@@ -179,6 +179,58 @@ pub fn data_for_all(r: &mut Rng, n: usize) -> Data {
     d
 }
 
+/// Data full of equal distances: samples of one to three values, and in half of the cases few different vectors, down to one. In a few small cases there
+/// are more entries than any beam holds.
+pub fn tied(r: &mut Rng, n: usize) -> Data {
+    let n = match r.below(60) {
+        0 if n < 200 => 257 + r.below(60),
+        _ => n,
+    };
+    let dim = match r.below(8) {
+        0..=2 => 1,
+        3 => 2,
+        4 => r.pick(&[16, 64]),
+        5 if r.below(8) == 0 => r.pick(&[255, 256]),
+        _ => 1 + r.below(8),
+    };
+    // an even step, so that halfway between two values there is a sample as far from the one as from the other
+    let (step, many) = (2 + 2 * r.below(30), r.pick(&[1, 2, 2, 2, 3, 3, 3, 3]));
+    let first = r.below(256 - 2 * step);
+    let mut vectors: Vec<u8> = (0..n * dim).map(|_| (first + step * r.below(many)) as u8).collect();
+    let different = match r.below(8) {
+        0 => 1,
+        1..=3 => 2 + r.below(3),
+        _ => n,
+    };
+    for i in different..n {
+        let from = r.below(different) * dim;
+        vectors.copy_within(from..from + dim, i * dim);
+    }
+    note(["one value of samples", "two values of samples", "three values of samples"][many - 1]);
+    note_if(n > 1 && vectors[dim..] == vectors[..(n - 1) * dim], "all vectors equal");
+    let degree = match r.below(4) {
+        0 => 1 + r.below(2),
+        1 if n < 200 => 64,
+        _ => 2 + r.below(8),
+    };
+    let params = Params { degree, beam: 0, alpha: 1.0, extra: 0 };
+    Data { n, dim, vectors, params, start: r.below(n) as u32 }
+}
+
+/// An entry; halfway between two, sample by sample; or any bytes.
+pub fn tied_query(r: &mut Rng, d: &Data) -> Vec<u8> {
+    let (kind, a, b) = (r.below(8), r.below(d.n) * d.dim, r.below(d.n) * d.dim);
+    let halfway = |i| ((usize::from(d.vectors[a + i]) + usize::from(d.vectors[b + i])) / 2) as u8;
+    let query: Vec<u8> = match kind {
+        0..=2 => d.vectors[a..a + d.dim].to_vec(),
+        3..=6 => (0..d.dim).map(halfway).collect(),
+        _ => (0..d.dim).map(|_| r.next() as u8).collect(),
+    };
+    let is_entry = d.vectors.chunks(d.dim).any(|v| v == query);
+    note(if is_entry { "the query is an entry" } else { "the query is no entry" });
+    query
+}
+
 /// How many of the nearest: at its limits, about n, or few.
 pub fn nearest_asked(r: &mut Rng, n: usize) -> usize {
     match r.below(7) {

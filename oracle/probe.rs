@@ -111,6 +111,14 @@ pub fn see_pool(sorted: &[(u32, f32)]) {
     }
 }
 
+/// The worst of a full beam that has left it, and the worst of what is left.
+#[inline]
+pub(crate) fn see_left(left: Option<Candidate>, worst: Option<&Candidate>) {
+    if left.map(|c| c.dist) == worst.map(|c| c.dist) {
+        see("an equal left the beam");
+    }
+}
+
 /// What was seen since it was last asked.
 pub fn seen() -> BTreeSet<&'static str> {
     SEEN.take()
@@ -179,10 +187,11 @@ pub fn found<D: Distance<u8>>(s: Search, metric: D) -> Vec<(u32, f32)> {
     graph_search(s.start, s.beam, distance, neighbours).into_iter().map(|c| (c.id, c.dist)).collect()
 }
 
-/// The same answers, equal distances by id: 000 leaves them as a heap's layout has them.
+/// The same answers in our order, equal distances by the higher id: 000 leaves them as a heap's layout has them. Which they are is 000's own doing: of
+/// equals its beam keeps the lower id.
 pub fn search(s: Search) -> Vec<(u32, f32)> {
     let mut pairs = found(s, Bytes);
-    pairs.sort_by(|a, b| a.1.total_cmp(&b.1).then(a.0.cmp(&b.0)));
+    pairs.sort_by(|a, b| a.1.total_cmp(&b.1).then(b.0.cmp(&a.0)));
     pairs
 }
 

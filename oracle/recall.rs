@@ -1,16 +1,17 @@
-//! Document 02's 1/13, written plainly from its text: all n distances, sorted and cut to k; and what a report counts. 000 has neither.
+//! Document 02's 1/13 in the order of 3/13, written plainly from their text: all n distances, sorted and cut to k; and what a report counts.
+//! 000 has neither.
 use crate::ours::{Recall, Report};
 use diskann::probe;
 
-/// The k nearest of all entries, by distance, then id.
+/// The k nearest of all entries, by distance, then the higher id.
 pub fn nearest(dim: usize, vectors: &[u8], k: usize, query: &[u8]) -> Vec<(u32, f32)> {
     let mut all: Vec<(u32, f32)> = vectors.chunks(dim).zip(0..).map(|(v, id)| (id, probe::distance(query, v))).collect();
-    all.sort_by(|a, b| a.1.total_cmp(&b.1).then(a.0.cmp(&b.0)));
+    all.sort_by(|a, b| a.1.total_cmp(&b.1).then(b.0.cmp(&a.0)));
     all.truncate(k);
     all
 }
 
-/// What a search brings: 000's answers, of which there are as many as the beam holds, cut to k.
+/// What a search brings: 000's answers in our order, of which there are as many as the beam holds, cut to k.
 fn brought(c: Recall, query: &[u8]) -> Vec<(u32, f32)> {
     let mut found = probe::search(probe::Search {
         dim: c.dim,

@@ -53,6 +53,10 @@ WATCHED = [
         "            let mut ids = neigh;\n",
         "            probe::see(probe::CLOSE_PRUNED);\n            let mut ids = neigh;\n",
     ),
+    (
+        "                work.pop();\n",
+        "                let left = work.pop(); probe::see_left(left, work.peek());\n",
+    ),
 ]
 
 source, target = sys.argv[1:]

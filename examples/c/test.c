@@ -1,4 +1,5 @@
-/* Checks of the library through C: cases of docs/01-scope.md with their outcomes, and refusals, each of which must give its number and change nothing. */
+/* Checks of the library through C: cases of docs/01-scope.md with their outcomes, equal distances as 3/13 lists them, and refusals, each of which must give
+ * its number and change nothing. */
 #include <fjalgrout.h>
 #include <math.h>
 #include <stdio.h>
@@ -46,7 +47,8 @@ static void test_distance(void) {
 
 /* ---- the line: dim 1, degree 2, start 0 */
 
-static const uint8_t line[4] = {10, 20, 30, 40}, bent[4] = {10, 20, 30, 25};
+/* besides has entries 0 and 1 as far from 25, and 2 there */
+static const uint8_t line[4] = {10, 20, 30, 40}, bent[4] = {10, 20, 30, 25}, besides[4] = {20, 30, 25, 40}, alike[4] = {20, 20, 20, 20};
 static const uint32_t line_rows[8] = {1, PAD, 0, 2, 1, 3, 2, PAD};
 
 /* One search with all that it is lent; every slice has guards behind its room, and a pattern to begin with. */
@@ -130,16 +132,52 @@ static void test_search(void) {
     ANSWERS(the_line(38, 1, 2), 1, ((uint32_t[]){0}), ((float[]){784}));
     ANSWERS(the_line(38, 0, 2), 1, ((uint32_t[]){0}), ((float[]){784}));
     ANSWERS(the_line(38, 8, 8), 4, ((uint32_t[]){3, 2, 1, 0}), ((float[]){4, 64, 324, 784}));
-    ANSWERS(the_line(25, 4, 4), 4, ((uint32_t[]){1, 2, 0, 3}), ((float[]){25, 25, 225, 225}));
+    ANSWERS(the_line(25, 4, 4), 4, ((uint32_t[]){2, 1, 3, 0}), ((float[]){25, 25, 225, 225}));
     ANSWERS(the_line(38, 2, 0), 0, ((uint32_t[]){0}), ((float[]){0}));
     struct searching s = the_line(25, 2, 2);
     s.vectors = bent;
-    ANSWERS(s, 2, ((uint32_t[]){1, 2}), ((float[]){25, 25}));
+    ANSWERS(s, 2, ((uint32_t[]){2, 1}), ((float[]){25, 25}));
     /* a k above the beam brings no more than the beam, though the rows lead to four */
     s = the_line(25, 1, 8), s.vectors = bent;
     ANSWERS(s, 1, ((uint32_t[]){0}), ((float[]){225}));
     s = the_line(25, 8, 8), s.vectors = bent;
-    ANSWERS(s, 4, ((uint32_t[]){3, 1, 2, 0}), ((float[]){0, 25, 25, 225}));
+    ANSWERS(s, 4, ((uint32_t[]){3, 2, 1, 0}), ((float[]){0, 25, 25, 225}));
+}
+
+/* ---- equal distances: the higher id first, also at the cut; a full beam keeps the lower id */
+
+/* Entry 0 leads to 1 and 2, which lead nowhere. */
+static struct searching from_the_first(size_t beam, size_t k) {
+    struct searching s = the_line(25, beam, k);
+    s.vectors = besides;
+    memcpy(s.table, (uint32_t[]){1, 2, PAD, PAD, PAD, PAD, PAD, PAD}, sizeof s.table);
+    return s;
+}
+
+static void test_equals(void) {
+    /* cut within the first run, behind it, within the second, and above the beam; the same as records */
+    static const uint32_t ids[4] = {2, 1, 3, 0};
+    static const float dists[4] = {25, 25, 225, 225};
+    for (size_t k = 0; k <= 5; k++) {
+        size_t count = k < 4 ? k : 4;
+        ANSWERS(the_line(25, 4, k), count, ids, dists);
+        struct searching s = the_line(25, 4, k), plain = s;
+        fjalgrout_candidate run[4];
+        CHECK(run_records(&s, run, 4).count == count && search(&plain).count == count && memcmp(&s, &plain, sizeof s) == 0);
+        for (size_t i = 0; i < count; i++) CHECK(run[i].id == ids[i] && run[i].distance == dists[i]);
+    }
+    /* one run of all; a beam of 2 is full with entries 0 and 1, and an equal does not come in */
+    struct searching s = the_line(20, 4, 4);
+    s.vectors = alike;
+    ANSWERS(s, 4, ((uint32_t[]){3, 2, 1, 0}), ((float[]){0, 0, 0, 0}));
+    s = the_line(20, 4, 2), s.vectors = alike;
+    ANSWERS(s, 2, ((uint32_t[]){3, 2}), ((float[]){0, 0}));
+    s = the_line(20, 2, 2), s.vectors = alike;
+    ANSWERS(s, 2, ((uint32_t[]){1, 0}), ((float[]){0, 0}));
+    /* entry 2 enters a beam of 2 that is full with the equals 0 and 1, and 1 leaves */
+    ANSWERS(from_the_first(2, 2), 2, ((uint32_t[]){2, 0}), ((float[]){0, 25}));
+    ANSWERS(from_the_first(3, 3), 3, ((uint32_t[]){2, 1, 0}), ((float[]){0, 25, 25}));
+    ANSWERS(from_the_first(3, 2), 2, ((uint32_t[]){2, 1}), ((float[]){0, 25}));
 }
 
 #define REFUSES(number, change) \
@@ -250,17 +288,21 @@ static void nearest_at(int at, struct exhausting e, size_t count, const uint32_t
     } while (0)
 
 static void test_exhaustive(void) {
-    NEAREST(all_of_the_line(25, 2), 2, ((uint32_t[]){1, 2}), ((float[]){25, 25}));
+    NEAREST(all_of_the_line(25, 2), 2, ((uint32_t[]){2, 1}), ((float[]){25, 25}));
     NEAREST(all_of_the_line(38, 2), 2, ((uint32_t[]){3, 2}), ((float[]){4, 64}));
-    /* of two that are equally near the lower id, also at the cut; k as n and above it */
-    NEAREST(all_of_the_line(25, 1), 1, ((uint32_t[]){1}), ((float[]){25}));
-    NEAREST(all_of_the_line(25, 3), 3, ((uint32_t[]){1, 2, 0}), ((float[]){25, 25, 225}));
-    NEAREST(all_of_the_line(25, 4), 4, ((uint32_t[]){1, 2, 0, 3}), ((float[]){25, 25, 225, 225}));
-    NEAREST(all_of_the_line(25, 256), 4, ((uint32_t[]){1, 2, 0, 3}), ((float[]){25, 25, 225, 225}));
+    /* of two that are equally near the higher id, also at the cut; k as n and above it */
+    NEAREST(all_of_the_line(25, 1), 1, ((uint32_t[]){2}), ((float[]){25}));
+    NEAREST(all_of_the_line(25, 3), 3, ((uint32_t[]){2, 1, 3}), ((float[]){25, 25, 225}));
+    NEAREST(all_of_the_line(25, 4), 4, ((uint32_t[]){2, 1, 3, 0}), ((float[]){25, 25, 225, 225}));
+    NEAREST(all_of_the_line(25, 256), 4, ((uint32_t[]){2, 1, 3, 0}), ((float[]){25, 25, 225, 225}));
     /* the entry that a search with beam 2 misses; and outputs longer than the nearest */
     struct exhausting e = all_of_the_line(25, 2);
     e.vectors = bent, e.ids_count = e.dists_count = 8;
-    NEAREST(e, 2, ((uint32_t[]){3, 1}), ((float[]){0, 25}));
+    NEAREST(e, 2, ((uint32_t[]){3, 2}), ((float[]){0, 25}));
+    e = all_of_the_line(25, 2), e.vectors = besides;
+    NEAREST(e, 2, ((uint32_t[]){2, 1}), ((float[]){0, 25}));
+    e = all_of_the_line(20, 2), e.vectors = alike;
+    NEAREST(e, 2, ((uint32_t[]){3, 2}), ((float[]){0, 0}));
 
     EXHAUSTIVE_REFUSES(1, e.dim = 0);
     EXHAUSTIVE_REFUSES(1, e.dim = 257);
@@ -350,6 +392,12 @@ static void test_report(void) {
     /* entry 3, the nearest, is missed */
     r = report_of_the_line(2, 2), r.vectors = bent, r.queries_count = 1;
     REPORTS(r, 1, 2, 1, 0);
+    /* entry 0 is brought, is as near as 1, and is not among the nearest; with beam 3 both are in the beam */
+    r = report_of_the_line(2, 2), r.vectors = besides, r.queries_count = 1;
+    memcpy(r.table, (uint32_t[]){1, 2, PAD, PAD, PAD, PAD, PAD, PAD}, sizeof r.table);
+    REPORTS(r, 1, 2, 1, 0);
+    r.beam = 3;
+    REPORTS(r, 1, 2, 2, 1);
 
     REPORT_REFUSES(1, r.dim = 0);
     REPORT_REFUSES(1, r.dim = 257);
@@ -660,6 +708,7 @@ int main(void) {
     test_sizes();
     test_distance();
     test_search();
+    test_equals();
     test_search_refusals();
     test_lookup();
     test_fit();

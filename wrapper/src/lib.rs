@@ -212,7 +212,8 @@ pub fn build(
     done(answer).map(drop)
 }
 
-/// Search: for a table that nobody has checked. How many answers there are, by distance, then id, at the front of `ids` and `dists`; what lies beyond them is untouched.
+/// Search: for a table that nobody has checked. How many answers there are, by distance, then the higher id, at the front of `ids` and `dists`; of equals at
+/// the cut to k the higher ids. What lies beyond them is untouched. What a full beam keeps is another matter: of equals the lower id.
 ///
 /// There are at most [`most_answers`] of them, min(k, max(beam, 1)). Fewer than that are all that the rows lead to from the start. As many as that: an
 /// entry that is missing can be reached only by passing some entry that is no nearer than the last answer. (It may be nearer itself: the search is greedy.)
@@ -249,8 +250,8 @@ pub fn search(vectors: Vectors, table: Table, wanted: Wanted, query: &[u8], scra
     Ok(done(answer)?.count)
 }
 
-/// Lookup: what a tower calls. The same search without the pass over the table: 8 is given for its length alone, and a word that is no id below n reads as
-/// padding. So it is safe on every table, and where [`fit`] accepts the table it is [`search`] itself, refusals included.
+/// Lookup: what a tower calls. The same search, in the same order, without the pass over the table: 8 is given for its length alone, and a word that is no id
+/// below n reads as padding. So it is safe on every table, and where [`fit`] accepts the table it is [`search`] itself, refusals included.
 ///
 /// Scratch: [`search_room`]; each output [`most_answers`]. Numbers 1, 2, 3, 4, 6, 8, 10, 11.
 pub fn lookup(vectors: Vectors, table: Table, wanted: Wanted, query: &[u8], scratch: Scratch, ids: &mut [u32], dists: &mut [f32]) -> Result<usize, Refusal> {
@@ -291,7 +292,7 @@ pub fn fit(n: usize, degree: usize, rows: &[u32]) -> Result<(), Refusal> {
     done(answer).map(drop)
 }
 
-/// The same search, and its answers once more as a run of records, best first; records beyond the answers are untouched. The run, too, must have room
+/// The same search, and its answers once more as a run of records, in their order; records beyond the answers are untouched. The run, too, must have room
 /// for [`most_answers`] records. Numbers 1, 2, 3, 4, 6, 8, 10, 11.
 #[allow(clippy::too_many_arguments)]
 pub fn search_records(

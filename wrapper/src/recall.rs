@@ -26,8 +26,8 @@ impl Report {
     }
 }
 
-/// Exhaustive: the true nearest, from the distances to all entries and with no table. How many there are, min(k, n), by distance, then id, at the front of
-/// `ids` and `dists`; what lies beyond them is untouched.
+/// Exhaustive: the true nearest, from the distances to all entries and with no table. How many there are, min(k, n), by distance, then the higher id,
+/// at the front of `ids` and `dists`; of equals at the cut to k the higher ids. What lies beyond them is untouched.
 ///
 /// Each output: [`most_nearest`](crate::most_nearest). Numbers 1, 2, 10, 11, 14.
 pub fn exhaustive(vectors: Vectors, k: usize, query: &[u8], ids: &mut [u32], dists: &mut [f32]) -> Result<usize, Refusal> {
@@ -52,7 +52,8 @@ pub fn exhaustive(vectors: Vectors, k: usize, query: &[u8], ids: &mut [u32], dis
 }
 
 /// Report: how many of the true nearest the search brings, in whole numbers. `queries` holds up to 65,535 of them one after another, dim bytes each, and may
-/// be empty. Each is searched for, as [`search`](crate::search) does, and then exhaustively; an answer is found where its id is among the nearest.
+/// be empty. Each is searched for, as [`search`](crate::search) does, and then exhaustively; an answer is found where its id is among the nearest:
+/// where the cut to k divides equals, one of a lower id is not, though it is as near.
 ///
 /// Scratch: [`report_room`](crate::report_room). Numbers 1, 2, 3, 4, 6, 8, 10, 11, 14.
 pub fn report(vectors: Vectors, table: Table, wanted: Wanted, queries: &[u8], scratch: Scratch) -> Result<Report, Refusal> {

@@ -1,4 +1,4 @@
-//! The cases of docs/01-scope.md that a public call shows, with their outcomes; and those of recall, 1/13.
+//! The cases of docs/01-scope.md that a public call shows, with their outcomes; those of recall, 1/13; and of equal distances, as 3/13 lists them.
 
 mod lent;
 
@@ -18,7 +18,7 @@ fn the_line() {
     assert_eq!(line_search(38, 1, 2).answers(), Ok(vec![(0, 784.0)]));
     assert_eq!(line_search(38, 0, 2).answers(), Ok(vec![(0, 784.0)]));
     assert_eq!(line_search(38, 8, 8).answers(), Ok(vec![(3, 4.0), (2, 64.0), (1, 324.0), (0, 784.0)]));
-    assert_eq!(line_search(25, 4, 4).answers(), Ok(vec![(1, 25.0), (2, 25.0), (0, 225.0), (3, 225.0)]));
+    assert_eq!(line_search(25, 4, 4).answers(), Ok(vec![(2, 25.0), (1, 25.0), (3, 225.0), (0, 225.0)]));
     assert_eq!(line_search(38, 2, 0).answers(), Ok(vec![]));
 }
 
@@ -47,22 +47,80 @@ fn a_stray_word_in_a_lookup() {
 /// Entry 3 at 0 is missed: the walk stops before it.
 #[test]
 fn an_entry_that_is_missed() {
-    assert_eq!(bent(2, 2).answers(), Ok(vec![(1, 25.0), (2, 25.0)]));
+    assert_eq!(bent(2, 2).answers(), Ok(vec![(2, 25.0), (1, 25.0)]));
 }
 
 /// A k above the beam brings no more than the beam, though the rows lead to four.
 #[test]
 fn more_asked_than_the_beam() {
     assert_eq!(bent(1, 8).answers(), Ok(vec![(0, 225.0)]));
-    assert_eq!(bent(8, 8).answers(), Ok(vec![(3, 0.0), (1, 25.0), (2, 25.0), (0, 225.0)]));
+    assert_eq!(bent(8, 8).answers(), Ok(vec![(3, 0.0), (2, 25.0), (1, 25.0), (0, 225.0)]));
+}
+
+/// The line and query 25, cut at every k: within the first run of equals, behind it, within the second, and above the beam; by search, lookup and as records.
+#[test]
+fn equals_at_the_cut() {
+    let all = [(2, 25.0), (1, 25.0), (3, 225.0), (0, 225.0)];
+    for k in 0..=5 {
+        let want = Ok(all[..k.min(4)].to_vec());
+        assert_eq!(line_search(25, 4, k).answers(), want, "k {k}");
+        assert_eq!(line_search(25, 4, k).answers_in(5), want, "records, k {k}");
+    }
+}
+
+/// Four equal vectors: one run. A beam of 2 is full with entries 0 and 1, and an equal does not come in.
+#[test]
+fn all_vectors_equal() {
+    let alike = |beam, k| Search {
+        bytes: vec![20; 4],
+        ..line_search(20, beam, k)
+    };
+    assert_eq!(alike(4, 4).answers(), Ok(vec![(3, 0.0), (2, 0.0), (1, 0.0), (0, 0.0)]));
+    assert_eq!(alike(4, 2).answers(), Ok(vec![(3, 0.0), (2, 0.0)]));
+    assert_eq!(alike(2, 2).answers(), Ok(vec![(1, 0.0), (0, 0.0)]));
+    let nearest = Nearest {
+        bytes: vec![20; 4],
+        ..line_nearest(20, 2)
+    };
+    assert_eq!(nearest.answers(), Ok(vec![(3, 0.0), (2, 0.0)]));
+}
+
+/// Entries 0 and 1 are as far from 25, and 2 is there. Entry 0 leads to both others, which lead nowhere.
+const BESIDES: [u8; 4] = [20, 30, 25, 40];
+
+fn besides(beam: usize, k: usize) -> Search {
+    let mut rows = vec![PADDING; 8];
+    rows[..2].copy_from_slice(&[1, 2]);
+    Search {
+        bytes: BESIDES.to_vec(),
+        rows,
+        ..line_search(25, beam, k)
+    }
+}
+
+/// A full beam keeps the lower id of two equals, as 000 does, though answers have the higher first, and so has the search of all entries.
+#[test]
+fn what_a_full_beam_keeps() {
+    let all = vec![(2, 0.0), (1, 25.0), (0, 25.0)];
+    assert_eq!(besides(2, 2).answers(), Ok(vec![all[0], all[2]]));
+    assert_eq!(besides(3, 3).answers(), Ok(all.clone()));
+    assert_eq!(besides(3, 2).answers(), Ok(all[..2].to_vec()));
+    let nearest = Nearest {
+        bytes: BESIDES.to_vec(),
+        ..line_nearest(25, 2)
+    };
+    assert_eq!(nearest.answers(), Ok(all[..2].to_vec()));
+    // entry 0 is as near as 1 and is not among the nearest
+    assert_eq!(reported(&besides(2, 2)), counts(1, 2, 1, 0));
+    assert_eq!(reported(&besides(3, 2)), counts(1, 2, 2, 1));
 }
 
 #[test]
 fn the_nearest_of_the_line() {
     assert_eq!(line_nearest(38, 2).answers(), Ok(vec![(3, 4.0), (2, 64.0)]));
-    assert_eq!(line_nearest(25, 2).answers(), Ok(vec![(1, 25.0), (2, 25.0)]));
-    let all = vec![(1, 25.0), (2, 25.0), (0, 225.0), (3, 225.0)];
-    // of equals at the cut the lower id; k as n, and above it
+    assert_eq!(line_nearest(25, 2).answers(), Ok(vec![(2, 25.0), (1, 25.0)]));
+    let all = vec![(2, 25.0), (1, 25.0), (3, 225.0), (0, 225.0)];
+    // of equals at the cut the higher id; k as n, and above it
     assert_eq!(line_nearest(25, 1).answers(), Ok(all[..1].to_vec()));
     assert_eq!(line_nearest(25, 3).answers(), Ok(all[..3].to_vec()));
     assert_eq!(line_nearest(25, 4).answers(), Ok(all.clone()));
@@ -71,7 +129,7 @@ fn the_nearest_of_the_line() {
         bytes: vec![10, 20, 30, 25],
         ..line_nearest(25, 2)
     };
-    assert_eq!(missed.answers(), Ok(vec![(3, 0.0), (1, 25.0)]));
+    assert_eq!(missed.answers(), Ok(vec![(3, 0.0), (2, 25.0)]));
 }
 
 /// The line with queries 25 and 38.

@@ -46,11 +46,16 @@ fn is_lawful(n: usize, degree: usize, table: &[u32]) -> bool {
     })
 }
 
-/// Every answer by distance, then id, from a walk over all entries.
+/// Every answer by distance, then the higher id, from a walk over all entries.
 fn all_answers(bytes: &[u8], query: &[u8]) -> Vec<(u32, f32)> {
     let mut answers: Vec<_> = bytes.chunks(DIM).enumerate().map(|(i, v)| (i as u32, distance(v, query).unwrap())).collect();
-    answers.sort_by(|a, b| a.1.total_cmp(&b.1).then(a.0.cmp(&b.0)));
+    answers.sort_by(|a, b| a.1.total_cmp(&b.1).then(b.0.cmp(&a.0)));
     answers
+}
+
+/// By distance, then the higher id.
+fn is_listed(answers: &[(u32, f32)]) -> bool {
+    answers.windows(2).all(|w| w[0].1 < w[1].1 || (w[0].1 == w[1].1 && w[0].0 > w[1].0))
 }
 
 /// Some of the entries, each a little moved.
@@ -103,10 +108,47 @@ fn a_built_table_finds_the_nearest() {
         let search = search_of(&build, &rows, 64, 5, query.clone());
         let (found, all) = (search.answers().unwrap(), all_answers(&build.bytes, &query));
         assert_eq!(found.len(), 5);
-        assert!(found.windows(2).all(|w| (w[0].1, w[0].0) < (w[1].1, w[1].0)), "by distance, then id");
+        assert!(is_listed(&found));
         assert!(found.iter().all(|answer| all.contains(answer)), "each answer has its own distance");
         assert_eq!(found[0], all[0], "the nearest");
     }
+}
+
+fn nearest_of(build: &Build, k: usize, query: Vec<u8>) -> Nearest {
+    Nearest {
+        n: build.n,
+        dim: DIM,
+        bytes: build.bytes.clone(),
+        k,
+        query,
+        short: [0; 2],
+    }
+}
+
+/// Samples of two values, so that most distances have an equal. A smaller k cuts the list of a greater one, also within a run of equals.
+#[test]
+fn equals_of_a_built_table() {
+    let params = Params {
+        degree: 8,
+        beam: 16,
+        extra: 1,
+        ..Params::default()
+    };
+    let mut build = drawn_build(200, params, 5);
+    build.bytes.iter_mut().for_each(|sample| *sample %= 2);
+    let rows = build.table().unwrap();
+    let mut divided = 0;
+    for query in queries(&build) {
+        let found = search_of(&build, &rows, 64, 64, query.clone()).answers().unwrap();
+        assert!(is_listed(&found));
+        let all = all_answers(&build.bytes, &query);
+        for k in 1..found.len() {
+            assert_eq!(search_of(&build, &rows, 64, k, query.clone()).answers().unwrap(), found[..k]);
+            assert_eq!(nearest_of(&build, k, query.clone()).answers().unwrap(), all[..k]);
+            divided += usize::from(found[k - 1].1 == found[k].1);
+        }
+    }
+    assert!(divided > 0, "no cut divides equals");
 }
 
 /// A report's numbers are those of its searches and exhaustive searches, counted here; and an exhaustive search has the front of all answers.
@@ -123,15 +165,7 @@ fn a_report_of_a_built_table() {
     for (beam, k) in [(1, 1), (4, 10), (10, 10), (40, 10), (256, 256)] {
         let (mut found, mut whole) = (0, 0);
         for query in queries(&build) {
-            let nearest = Nearest {
-                n: build.n,
-                dim: DIM,
-                bytes: build.bytes.clone(),
-                k,
-                query: query.clone(),
-                short: [0; 2],
-            };
-            let nearest = nearest.answers().unwrap();
+            let nearest = nearest_of(&build, k, query.clone()).answers().unwrap();
             assert_eq!(nearest, all_answers(&build.bytes, &query)[..k]);
             let brought = search_of(&build, &rows, beam, k, query).answers().unwrap();
             let hits = brought.iter().filter(|answer| nearest.contains(answer)).count();
