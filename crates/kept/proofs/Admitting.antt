@@ -13,8 +13,9 @@ use Rattle.definition.specs.Greedy.{State, admitted}
 use Rattle.laws.specs.Truth.{decide}
 use Rattle.laws.specs.All.{All, all-drop}
 use Rattle.laws.specs.Backwards.{rev}
+use Rattle.laws.specs.Parts.{drop-more}
 use Rattle.beam.specs.Keys.{half, none, openKey, Rising, PlaceIn, Put}
-use Rattle.beam.specs.Placing.{place-among}
+use Rattle.beam.specs.Placing.{place-among, put-nearer}
 use Rattle.kept.specs.Kept.{Kept, keyOf, keysOf, items, opens, opening, Closed, Inside, Falling}
 use Rattle.kept.specs.Keyed.{open-key, key-least, key-below, length-front, length-items, falling-desc}
 use Rattle.kept.specs.Says.{Standing, standing, works, boundOf, boundK, Works, Working, Admitted}
@@ -228,6 +229,8 @@ module _ (beam : ℕ) (s : Standing) (dist id : ℕ) where
   pub admit-out : Comes (s .work .bound) dist id false → Admitted beam s s dist id
   admit-out c =
       record {
+        nearer = λ k h l. refl;
+        capped = refl;
         working = λ n st below k.
             let a = tested false c n st k in
             subst₂ (Works n beam s) (sym (meet-frontier beam x st false a)) (sym (meet-work beam x st false a)) k;
@@ -250,10 +253,12 @@ module _ (beam : ℕ) (s : Standing) (dist id : ℕ) where
           (put-asks x (c .own) (c .near) (w .n) beam s (w .frontier) (w .work) (w .is) (lastOf beam (s .work .len))
           (slot-at (w .n) (w .frontier) (w .work) (w .is)))
 
-      pub admit-in : (at : ℕ) (after : List ℕ) → Put (s .keys) last (openKey dist id) at after
+      pub admit-in : Working beam s → (at : ℕ) (after : List ℕ) → Put (s .keys) last (openKey dist id) at after
           → Admitted beam s (standing after (works (last + 1) (min (s .work .done) at) (boundK after (last + 1) beam))) dist id
-      admit-in at after p =
+      admit-in w at after p =
           record {
+            nearer = put-nearer p (works-rise (w .is));
+            capped = drop-more (last + 1) beam after (s .keys) (omega (arith, last-below w)) (p .shift .only .above);
             working = λ n st below k.
                 let a = tested true c n st k in
                 subst₂ (Works n beam (standing after (works (last + 1) (min (s .work .done) at) (boundK after (last + 1) beam))))

@@ -11,7 +11,9 @@ use Rattle.definition.specs.Beam.{Item, nobody, nearer}
 use Rattle.laws.specs.All.{All, all-at}
 use Rattle.laws.specs.Backwards.{rev, map-append, map-take, rev-put-in}
 use Rattle.laws.specs.Mapped.{map-drop}
+use Rattle.laws.specs.Parts.{part, drop-take}
 use Rattle.beam.specs.Keys.{Put}
+use Rattle.beam.specs.Placing.{put-is}
 use Rattle.kept.specs.Kept.{Kept, keyOf, keysOf, opening, Closed, Inside, Falling}
 use Rattle.kept.specs.Keyed.{open-nearer, length-keys, length-front, falling-at}
 use Rattle.kept.proofs.Keeping.{put, put-first}
@@ -54,18 +56,18 @@ module _ (n : ℕ) (most : n ≤ 65536) (x : Item) (own : x .id < 65536) (ks : L
         ap (λ (i : ℕ). keyOf (getD ks i (opening nobody))) e,
       ))
 
-  put-is : put x ks ≡ take j ks ++ opening x ∷ drop j ks
-  put-is = put-first x ks j (omega arith) near far
+  put-at : put x ks ≡ take j ks ++ opening x ∷ drop j ks
+  put-at = put-first x ks j (omega arith) near far
 
   keys-in : keysOf (put x ks) ≡ take j (keysOf ks) ++ keyOf (opening x) ∷ drop j (keysOf ks)
   keys-in =
-      ap (map keyOf) put-is ∙ map-append keyOf (take j ks) (opening x ∷ drop j ks)
+      ap (map keyOf) put-at ∙ map-append keyOf (take j ks) (opening x ∷ drop j ks)
       ∙ ap (λ (l : List ℕ). l ++ keyOf (opening x) ∷ map keyOf (drop j ks)) (map-take keyOf j ks)
       ∙ ap (λ (l : List ℕ). take j (keysOf ks) ++ keyOf (opening x) ∷ l) (map-drop keyOf j ks)
 
   pub keys-put : after ≡ rev (keysOf (put x ks)) ++ behind
   keys-put =
-      p .is ∙ rw (front, all, back) refl
+      put-is p ∙ rw (front, moved, back) refl
       ∙ ap (λ (l : List ℕ). l ++ behind)
       (sym (rev-put-in (keyOf (opening x)) (keysOf ks) j at (omega (arith, length-keys ks, p .le))) ∙ ap rev (sym keys-in))
     where
@@ -75,8 +77,8 @@ module _ (n : ℕ) (most : n ≤ 65536) (x : Item) (own : x .id < 65536) (ks : L
       front : take at (keys ++ y ∷ behind) ≡ take at keys
       front = take-append-le at keys (y ∷ behind) (omega (arith, size, p .le))
 
-      all : take (length ks) (keys ++ y ∷ behind) ≡ keys
-      all = take-at keys (y ∷ behind) (length ks) size
+      moved : part at (length ks) (keys ++ y ∷ behind) ≡ drop at keys
+      moved = sym (drop-take at (length ks) (keys ++ y ∷ behind)) ∙ ap (drop at) (take-at keys (y ∷ behind) (length ks) size)
 
       back : drop (length ks + 1) (keys ++ y ∷ behind) ≡ behind
       back =
@@ -93,7 +95,7 @@ module _ (n : ℕ) (most : n ≤ 65536) (x : Item) (own : x .id < 65536) (ks : L
       later : drop (suc j) (put x ks) ≡ drop j ks
       later =
           let e : suc j ≡ length (take j ks) + 1 = omega (arith, front) in
-          ap (drop (suc j)) put-is ∙ ap (λ (i : ℕ). drop i (take j ks ++ opening x ∷ drop j ks)) e
+          ap (drop (suc j)) put-at ∙ ap (λ (i : ℕ). drop i (take j ks ++ opening x ∷ drop j ks)) e
           ∙ drop-append-add (take j ks) (opening x ∷ drop j ks) 1
 
       same : drop (suc (length ks) - m) (put x ks) ≡ drop (length ks - m) ks

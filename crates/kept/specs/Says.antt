@@ -10,7 +10,7 @@ use Rattle.definition.specs.Greedy.{State, meet, stops, popped}
 use Rattle.laws.specs.All.{All}
 use Rattle.laws.specs.Backwards.{rev}
 use Rattle.laws.specs.Paired.{itemsOf}
-use Rattle.beam.specs.Keys.{half, none, distOf, itemOf, Rising}
+use Rattle.beam.specs.Keys.{half, none, openKey, distOf, itemOf, Rising}
 use Rattle.kept.specs.declared.Work.{Work}
 use Rattle.kept.specs.declared.Popped.{Popped}
 use Rattle.kept.specs.Kept.{Kept, keysOf, items, opens, Closed, Inside, Falling, Beyond}
@@ -70,8 +70,10 @@ haltsK keys beam len d = leb len d || (not (ltb len beam) && leb (distOf (getD k
 
 -- ---- what each function does
 
--- an item came, as a newly visited entry
+-- an item came, as a newly visited entry; of the keys, what is no farther stands as it stood, and so does every place from the cap on
 pub record Admitted (beam : ℕ) (before after : Standing) (dist id : ℕ) : Type 0 where
+  pub nearer : (k : ℕ) → k < length (before .keys) → getD (before .keys) k 0 ≤ openKey dist id → getD (after .keys) k 0 ≡ getD (before .keys) k 0
+  pub capped : drop beam (after .keys) ≡ drop beam (before .keys)
   pub working : (n : ℕ) (st : State) → id < n → Works n beam before (st .frontier) (st .work)
       → Works n beam after (meet beam (item dist id) st .frontier) (meet beam (item dist id) st .work)
 
