@@ -1,4 +1,4 @@
-//! The search without its checks (bench/run makes it): ours to call only with what they accept.
+//! The search without its checks, and the inserts of a walk by themselves (bench/run makes both): to be called only with what their contracts ask.
 use crate::ours::{Answer, Search};
 
 extern "C" {
@@ -24,6 +24,18 @@ extern "C" {
         dists: *mut f32,
         dists_len: usize,
     ) -> Answer;
+
+    fn unchecked_meet(
+        keys: *mut u64,
+        keys_len: usize,
+        beam: usize,
+        len: usize,
+        bound: u64,
+        ids: *const u32,
+        ids_len: usize,
+        dists: *const u32,
+        dists_len: usize,
+    ) -> usize;
 }
 
 pub fn search(s: Search, words: &mut [u32], floats: &mut [f32], ids: &mut [u32], dists: &mut [f32]) -> Answer {
@@ -51,4 +63,10 @@ pub fn search(s: Search, words: &mut [u32], floats: &mut [f32], ids: &mut [u32],
             dists.len(),
         )
     }
+}
+
+/// Items come to a beam in turn, of which `len` stand in the 256 keys, none with its row walked: how many then do. The first comes in if its key is below
+/// `bound`.
+pub fn meet(keys: &mut [u64], beam: usize, len: usize, bound: u64, ids: &[u32], dists: &[u32]) -> usize {
+    unsafe { unchecked_meet(keys.as_mut_ptr(), keys.len(), beam, len, bound, ids.as_ptr(), ids.len(), dists.as_ptr(), dists.len()) }
 }

@@ -199,3 +199,38 @@ pub fn search(s: Search) -> Vec<(u32, f32)> {
 pub fn distance(a: &[u8], b: &[u8]) -> f32 {
     Bytes.eval(a, b)
 }
+
+/// Items for 000's ordered beam, in any order.
+pub struct Candidates(Vec<Candidate>);
+
+impl Candidates {
+    /// Of each item its distance, and its id.
+    pub fn of(items: impl Iterator<Item = (u32, u32)>) -> Candidates {
+        Candidates(items.map(|(dist, id)| Candidate { dist: dist as f32, id }).collect())
+    }
+}
+
+/// 000's ordered beam by itself.
+#[derive(Default)]
+pub struct Beam(OrderedBeam);
+
+impl Beam {
+    /// The beam holds a copy of just these, which come worst first.
+    pub fn fill(&mut self, items: &Candidates) {
+        self.0.items.clear();
+        self.0.items.extend_from_slice(&items.0);
+    }
+
+    /// Each comes to the beam in turn, by 000's `insert_capped`.
+    #[inline(never)]
+    pub fn insert_each(&mut self, items: &Candidates, cap: usize) {
+        for &item in &items.0 {
+            self.0.insert_capped(item, cap);
+        }
+    }
+
+    /// What it holds, the worst first.
+    pub fn items(&self) -> impl DoubleEndedIterator<Item = (u32, u32)> + '_ {
+        self.0.items.iter().map(|c| (c.dist as u32, c.id))
+    }
+}

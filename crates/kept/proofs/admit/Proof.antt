@@ -82,8 +82,8 @@ returns c =
     let j = p .before .before in
     let s = start (j .before .before) in
     rw (c .bound-of .ensures, c .before .before .least .ensures)
-    (admit-in (s .args .beam) (at s) (s .args .dist) (s .args .id) (below (j .before .before)) (j .if2 .last) (place j) (s .pre .0) (p .put .result) (p .put .last .0)
-    (rw (j .before .before .before .before .key-of .ensures) at (p .put .ensures)))
+    (admit-in (s .args .beam) (at s) (s .args .dist) (s .args .id) (below (j .before .before)) (j .if2 .last) (place j) (s .pre .0)
+    (p .put .result) (p .put .last .0) (rw (j .before .before .before .before .key-of .ensures) at (p .put .ensures)))
 
 returns-2 : tie.Need-returns-2
 returns-2 c =
