@@ -4,7 +4,8 @@
 //!     insert REPEATS
 //!
 //! A run is a full beam and as many items as it holds. They come in one after another, each at a place that is drawn, all places alike, so that each time
-//! the worst leaves. A run is one call on either side, ours of the function that a walk calls, and begins with a copy of the full beam, which is counted.
+//! the worst leaves. A run is one call on either side, and begins with a copy of the full beam, which is counted. Ours is the function that a walk calls,
+//! compiled by itself: in the library the compiler takes it into the walk. A third beam tells what the second shift costs: 000's, but moved once.
 mod clock;
 #[allow(dead_code)]
 mod data;
@@ -104,6 +105,34 @@ fn theirs(runs: &[Run], cap: usize, repeats: usize) -> f64 {
     best(repeats, || given.iter().for_each(|g| insert(&mut beam, g)))
 }
 
+/// 000's items, in its order and with its way to a place, but moved once: over the worst.
+#[inline(never)]
+fn insert_once(beam: &mut [(f32, u32)], coming: &[(f32, u32)]) {
+    for &(dist, id) in coming {
+        if dist < beam[0].0 {
+            let at = beam.partition_point(|x| x.0 > dist || (x.0.to_bits() == dist.to_bits() && x.1 > id));
+            beam.copy_within(1..at, 0);
+            beam[at - 1] = (dist, id);
+        }
+    }
+}
+
+fn moved_once(runs: &[Run], cap: usize, repeats: usize) -> f64 {
+    let floats = |items: &[Item]| items.iter().map(|&(dist, id)| (dist as f32, id)).collect::<Vec<_>>();
+    let worst_first = |items: &[Item]| floats(items).into_iter().rev().collect::<Vec<_>>();
+    let given: Vec<_> = runs.iter().map(|r| (worst_first(&r.full), floats(&r.coming))).collect();
+    let mut beam = vec![(0.0, 0); cap];
+    let insert = |beam: &mut [(f32, u32)], (full, coming): &(Vec<(f32, u32)>, Vec<(f32, u32)>)| {
+        beam.copy_from_slice(full);
+        insert_once(beam, coming);
+    };
+    for (g, run) in given.iter().zip(runs) {
+        insert(&mut beam, g);
+        assert!(beam == worst_first(&run.kept), "what a beam that is moved once keeps");
+    }
+    best(repeats, || given.iter().for_each(|g| insert(&mut beam, black_box(g))))
+}
+
 fn main() {
     let repeats = std::env::args().nth(1).and_then(|a| a.parse().ok()).expect("insert REPEATS");
     println!("a capped insert into a full beam, at any place: {RUNS} beams, as many inserts into each as it holds, best of {repeats}");
@@ -114,5 +143,6 @@ fn main() {
         let (ours, theirs) = (ours(&runs, cap, repeats) * each, theirs(&runs, cap, repeats) * each);
         let what = format!("one insert, beam {cap}");
         println!("{what:<28} ours {ours:>12.3} ns   000 {theirs:>12.3} ns   ratio {:.3}", ours / theirs);
+        println!("{:<28} {:>17.3} ns", "  000's beam, moved once", moved_once(&runs, cap, repeats) * each);
     }
 }
