@@ -3,11 +3,11 @@
 use mathlib.Core.Path.{_≡_, refl, sym, ap, _∙_, subst}
 use mathlib.Core.Bool.{Bool, false, cond}
 use mathlib.Core.List.{List, [], _∷_, _++_}
-use Prim.Native.Nat.{ℕ, zero, suc, _-_, _≤_, _<_}
+use Prim.Native.Nat.{ℕ, zero, suc, _+_, _-_, _≤_, _<_}
 use native.Mathlib.Omega.{arith}
 use borrow.Author.Tests.{lt-ltb, eqb-true, eqb-false}
 use lib.Dec.{eqb}
-use lib.ListN.{length, replicate, set, length-set}
+use lib.ListN.{length, getD, replicate, set, length-set}
 use Rattle.definition.specs.Lists.{place}
 use Rattle.definition.specs.Tables.{pad, row, cleaned}
 use Rattle.definition.specs.Beam.{Item, item, insert, insertCapped, best, withoutBest, beatsWorst}
@@ -18,7 +18,6 @@ use Rattle.laws.specs.Parts.{Within, within-wider, within-trans, set-within}
 use Rattle.laws.specs.Truth.{decide}
 use Rattle.scratch.specs.Layout.{strayAt}
 use Rattle.beam.specs.Keys.{none}
-use Rattle.marks.specs.Marked.{NextEpoch}
 use Rattle.marks.specs.News.{id-real, news-one}
 use Rattle.marks.specs.Visits.{marked-start, visited-start, seen-start, visited-most}
 use Rattle.kept.specs.declared.Work.{Work}
@@ -81,43 +80,46 @@ bare {n} {beam} e k = ap length (k .frontier-is) ∙ go (k .kept) (k .rest) (ome
     go [] [] h b = refl
 
 -- there is room for the mark of what is no entry
-pub stray-fits : {p : Plan} {epoch e : ℕ} {words₀ words₁ : List ℕ} → Room p epoch words₀ → NextEpoch (p .n) words₀ words₁ epoch e
-    → strayAt (p .n) < length words₁
-stray-fits {p} r f = omega (arith, r .space .room, walk-end-least p, f .kept .size)
+pub stray-fits : {p : Plan} {epoch : ℕ} {words : List ℕ} → Room p epoch words → strayAt (p .n) < length words
+stray-fits {p} r = omega (arith, r .space .room, walk-end-least p)
 
--- ---- the scratch at the start: words₁ and e are what the next epoch left, w is an empty work
-pub record Started (p : Plan) (epoch : ℕ) (words₀ words₁ : List ℕ) (e : ℕ) (keys : List ℕ) (w : Work) : Type 0 where
-  pub room : Room p epoch words₀
-  pub next : NextEpoch (p .n) words₀ words₁ epoch e
+-- ---- the scratch at the start: e is the next epoch, w an empty work
+pub record Started (p : Plan) (epoch : ℕ) (words : List ℕ) (e : ℕ) (keys : List ℕ) (w : Work) : Type 0 where
+  pub room : Room p epoch words
+  pub next : e ≡ epoch + 1
   pub free : keys ≡ replicate 256 none
   pub empty : w ≡ noWork (p .beam)
 
-pub started : {p : Plan} {epoch e : ℕ} {words₀ words₁ keys : List ℕ} {w : Work} → Room p epoch words₀ → NextEpoch (p .n) words₀ words₁ epoch e
-    → keys ≡ replicate 256 none → w ≡ noWork (p .beam) → Started p epoch words₀ words₁ e keys w
+pub started : {p : Plan} {epoch e : ℕ} {words keys : List ℕ} {w : Work} → Room p epoch words → e ≡ epoch + 1 → keys ≡ replicate 256 none
+    → w ≡ noWork (p .beam) → Started p epoch words e keys w
 started r f k w = record { room = r; next = f; free = k; empty = w }
 
-module _ {p : Plan} {epoch : ℕ} {words₀ words₁ : List ℕ} {e : ℕ} {keys : List ℕ} {w : Work} (b : Started p epoch words₀ words₁ e keys w) where
+module _ {p : Plan} {epoch : ℕ} {words₀ : List ℕ} {e : ℕ} {keys : List ℕ} {w : Work} (b : Started p epoch words₀ e keys w) where
   abbrev n : ℕ
   n = p .n
 
   abbrev beam : ℕ
   beam = p .beam
 
-  abbrev words₂ : List ℕ
-  words₂ = set words₁ (strayAt n) e
+  abbrev words₁ : List ℕ
+  words₁ = set words₀ (strayAt n) e
 
   abbrev s₀ : Standing
-  s₀ = standing words₂ keys (record { visited = 0; work = w })
+  s₀ = standing words₁ keys (record { visited = 0; work = w })
 
-  fits : strayAt n < length words₁
-  fits = stray-fits (b .room) (b .next)
+  fits : strayAt n < length words₀
+  fits = stray-fits (b .room)
+
+  -- no mark is the epoch yet
+  below : (i : ℕ) → i < n → getD words₀ i 0 < e
+  below i h = omega (arith, b .room .marks i h, b .next)
 
   pub start-ready : Ready p e s₀
   start-ready =
       record {
-        space = space-kept (b .room .space) (length-set words₁ (strayAt n) e ∙ b .next .kept .size);
-        marked = marked-start n e words₁ (b .next .below) (b .room .space .nodes) fits;
-        visited-is = visited-start n e words₁ (b .next .below) (omega (arith, fits));
+        space = space-kept (b .room .space) (length-set words₀ (strayAt n) e);
+        marked = marked-start n e words₀ below (b .room .space .nodes) fits;
+        visited-is = visited-start n e words₀ below (omega (arith, fits));
       }
 
   start-is : Is p e s₀ unvisited
@@ -125,7 +127,7 @@ module _ {p : Plan} {epoch : ℕ} {words₀ words₁ : List ℕ} {e : ℕ} {keys
   start-is =
       let s = b .room .space in
       record {
-        seen = seen-start n e words₁ (b .next .below);
+        seen = seen-start n e words₀ below;
         count = refl;
         logged = λ _. record { ids-are = refl; dists-are = refl };
         working =
@@ -135,11 +137,10 @@ module _ {p : Plan} {epoch : ℕ} {words₀ words₁ : List ℕ} {e : ℕ} {keys
   pub start-live : Live p e s₀
   start-live = record { state = unvisited; is = start-is }
 
-  start-kept : Within 0 (walkEnd p) words₀ words₂
+  start-kept : Within 0 (walkEnd p) words₀ words₁
   start-kept =
       let end = walk-end-least p in
-      within-trans 0 (walkEnd p) words₀ words₁ words₂ (within-wider 0 n words₀ words₁ (b .next .kept) 0 (walkEnd p) (omega arith) (omega arith))
-      (within-wider (strayAt n) (suc (strayAt n)) words₁ words₂ (set-within words₁ (strayAt n) e) 0 (walkEnd p) (omega arith) (omega arith))
+      within-wider (strayAt n) (suc (strayAt n)) words₀ words₁ (set-within words₀ (strayAt n) e) 0 (walkEnd p) (omega arith) (omega arith)
 
   -- ---- the start is met
   module _ (d : ℕ → ℕ) {start : ℕ} (inside : start < n) {s₁ : Standing} (m : Moves p e s₀ s₁ (λ st. expand d beam st (cleaned n (start ∷ [])))) where
@@ -201,7 +202,7 @@ module _ {p : Plan} {epoch : ℕ} {words₀ words₁ : List ℕ} {e : ℕ} {keys
           (walkOf p d table start)
       walked =
           record {
-            epoch-is = b .next .is;
+            epoch-is = b .next;
             room = record { space = q .ready .space; marks = q .ready .marked .marks-le };
             visited-is = ends .count;
             visited-le = omega (arith, visited-most (q .ready .marked), q .ready .visited-is);
@@ -209,6 +210,6 @@ module _ {p : Plan} {epoch : ℕ} {words₀ words₁ : List ℕ} {e : ℕ} {keys
             work-is = works-tell n beam (standing-kept (s₂ .keys) (s₂ .counts .work)) (end .frontier) (end .work) (ends .working);
             work-le = ends .working .len-le;
             words-kept =
-                within-trans 0 (walkEnd p) words₀ words₂ (s₂ .words) start-kept
-                (within-trans 0 (walkEnd p) words₂ (s₁ .words) (s₂ .words) (m .words-kept) (q .words-kept));
+                within-trans 0 (walkEnd p) words₀ words₁ (s₂ .words) start-kept
+                (within-trans 0 (walkEnd p) words₁ (s₁ .words) (s₂ .words) (m .words-kept) (q .words-kept));
           }

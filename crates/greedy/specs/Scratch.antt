@@ -14,7 +14,7 @@ use Rattle.laws.specs.Parts.{part, Within}
 use Rattle.laws.specs.Tables.{row-fits}
 use Rattle.laws.specs.Truth.{either}
 use Rattle.scratch.specs.Layout.{mostBeam, widest, visitedAt, visitedEnd, visitedDistsAt, poolAt}
-use Rattle.marks.specs.Marked.{Marks, visitedOf, Marked, Seen, nextEpoch}
+use Rattle.marks.specs.Marked.{Marks, visitedOf, Marked, Seen}
 use Rattle.kept.specs.Says.{Works, Tells}
 use Rattle.kept.specs.Says.{standing as standing-kept}
 use Rattle.greedy.specs.declared.Plan.{Plan}
@@ -138,7 +138,7 @@ pub record Moves (p : Plan) (epoch : ℕ) (before after : Standing) (move : Stat
 
 -- one whole walk: the next epoch, and the state it comes to
 pub record Walks (p : Plan) (epoch : ℕ) (before after keys : List ℕ) (r : Walked) (st : State) : Type 0 where
-  pub epoch-is : r .epoch ≡ nextEpoch epoch
+  pub epoch-is : r .epoch ≡ epoch + 1
   pub room : Room p (r .epoch) after
   pub visited-is : length (st .visited) ≡ r .visited
   pub visited-le : r .visited ≤ p .n

@@ -9,6 +9,7 @@ ghost use lib.ListN.{length, replicate};
 ghost use Rattle.definition.specs.Metric.{fromQuery};
 ghost use Rattle.definition.specs.Tables.{row, cleaned};
 ghost use Rattle.definition.specs.Greedy.{expand, steps};
+ghost use Rattle.theory.specs.build.Walks.{epochEnd};
 ghost use Rattle.scratch.specs.Layout.{widest, poolAt};
 ghost use Rattle.beam.specs.Keys.{none};
 ghost use Rattle.greedy.specs.Scratch.{Measures, Ground, fromStart, walkOf, standing, Ready, Live, Room, Rooms, Keeps, Moves, Walks};
@@ -270,7 +271,7 @@ pub fn greedy(
     epoch: u32,
     start: u32,
 ) -> Walked
-    requires { ⌜ Room p epoch (now words) ⌝ }
+    requires { ⌜ (epoch + 1 < epochEnd) × Room p epoch (now words) ⌝ }
     requires { ⌜ now keys ≡ replicate 256 none ⌝ }
     requires { ⌜ Ground p (now vectors) (now query) (now table) ⌝ }
     requires { ⌜ start < p .n ⌝ }
@@ -281,7 +282,7 @@ pub fn greedy(
     let mut apart = [0u32; scratch::WIDEST];
     let first = [start];
     let n = p.n;
-    let e = marks::next_epoch(words, n, epoch);
+    let e = marks::next_epoch(epoch);
     words[n] = e;
     let work = kept::empty(p.beam);
     let none = Counts { visited: 0, work };

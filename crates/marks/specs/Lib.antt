@@ -2,5 +2,4 @@
 pub mod Marked
 pub mod Counting
 pub mod News
-pub mod Epochs
 pub mod Visits

@@ -63,13 +63,3 @@ pub record Gathers (n epoch : ℕ) (before after row fresh : List ℕ) (r : ℕ)
   pub seen : (seen : List ℕ) → Seen n epoch before seen → Seen n epoch after (seen ++ news seen (cleaned n row))
   pub inside : All (λ (i : ℕ). i < n) (take r fresh)
   pub kept : Within 0 (visitedAt n) before after
-
--- one more with wrap, and never 0
-abbrev pub nextEpoch : ℕ → ℕ
-nextEpoch epoch = cond (eqb epoch 0xFFFFFFFF) 1 (epoch + 1)
-
--- no mark is the new epoch yet, and each is below it
-pub record NextEpoch (n : ℕ) (before after : List ℕ) (epoch r : ℕ) : Type 0 where
-  pub is : r ≡ nextEpoch epoch
-  pub below : (i : ℕ) → i < n → getD after i 0 < r
-  pub kept : Within 0 n before after

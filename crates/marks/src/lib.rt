@@ -2,22 +2,16 @@
 // the epoch in every walk, so that no word of a row needs a test of its own (crate scratch says where all lies).
 
 ghost use mathlib.Core.Path.{_≡_};
-ghost use Prim.Native.Nat.{_≤_, _<_};
+ghost use Prim.Native.Nat.{_+_, _≤_, _<_};
 ghost use lib.ListN.{length};
-ghost use Rattle.marks.specs.Marked.{Marks, Marked, markOf, newOf, Notes, Gathers, NextEpoch};
+ghost use Rattle.theory.specs.build.Walks.{epochEnd};
+ghost use Rattle.marks.specs.Marked.{Marked, markOf, newOf, Notes, Gathers};
 
-// The epoch after which epochs wrap.
-const LAST_EPOCH: u32 = 0xFFFFFFFF;
-
-// The epoch of the next walk: one more with wrap; at 0 the marks are cleared and it is 1.
-pub fn next_epoch(words: &mut [u32], n: usize, epoch: u32) -> u32
-    requires { ⌜ (n ≤ length (now words)) × Marks n (now words) epoch ⌝ }
-    ensures { λ r. ⌜ NextEpoch n (now (words .entry)) (now (words .exit)) epoch r ⌝ }
+// The epoch of the next walk: one more, and so above every mark. No call makes so many walks that it comes near the last (theory, Walks).
+pub fn next_epoch(epoch: u32) -> u32
+    requires { ⌜ epoch + 1 < epochEnd ⌝ }
+    ensures { λ r. ⌜ r ≡ epoch + 1 ⌝ }
 {
-    if epoch == LAST_EPOCH {
-        scratch::clear_words(&mut words[0..n]);
-        return 1;
-    }
     epoch + 1
 }
 
