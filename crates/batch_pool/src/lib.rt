@@ -3,12 +3,13 @@
 use greedy::Plan;
 ghost use mathlib.Core.Path.{_≡_};
 ghost use mathlib.Core.List.{[], _∷_, map};
-ghost use Prim.Native.Nat.{_≤_, _<_};
+ghost use Prim.Native.Nat.{_+_, _≤_, _<_};
 ghost use lib.ListN.{length};
 ghost use Rattle.definition.specs.Metric.{fromQuery};
 ghost use Rattle.definition.specs.Lists.{joined};
 ghost use Rattle.definition.specs.Tables.{ids};
 ghost use Rattle.laws.specs.Words.{Searchable, Below};
+ghost use Rattle.theory.specs.build.Walks.{nodeWalks, epochAfter, epochEnd};
 ghost use Rattle.scratch.specs.Layout.{poolEnd};
 ghost use Rattle.greedy.specs.Scratch.{Measures};
 ghost use Rattle.batch_pool.specs.Pooled.{poolAs, Pooled, Added};
@@ -105,11 +106,12 @@ fn add_walk(
     start: u32,
 ) -> Collected
     requires { ⌜ Walkable p (now vectors) (now query) (now wide) ⌝ }
-    requires { ⌜ Holding p epoch (stage (now words) stamp len) ⌝ }
+    requires { ⌜ (epoch + 1 < epochEnd) × Holding p epoch (stage (now words) stamp len) ⌝ }
     requires { ⌜ start < p .n ⌝ }
     ensures { λ r. ⌜ Grown p (r .epoch) (stage (now (words .entry)) stamp len) (stage (now (words .exit)) stamp (r .len))
         (visits p (fromQuery (p .dim) (now (vectors .entry)) (now (query .entry))) (now (wide .entry)) start)
         (fromQuery (p .dim) (now (vectors .entry)) (now (query .entry))) ⌝ }
+    ensures { λ r. ⌜ r .epoch ≡ epoch + 1 ⌝ }
 {
     let mut keys = [beam::NONE; 256];
     let s = greedy::greedy(words, &mut keys, vectors, query, wide, p, epoch, start);
@@ -132,11 +134,12 @@ fn add_walks(
     c: Collected,
 ) -> Collected
     requires { ⌜ Walkable p (now vectors) (now query) (now wide) ⌝ }
-    requires { ⌜ Holding p (c .epoch) (stage (now words) stamp (c .len)) ⌝ }
+    requires { ⌜ (c .epoch + length (now seeds) < epochEnd) × Holding p (c .epoch) (stage (now words) stamp (c .len)) ⌝ }
     requires { ⌜ Below (p .n) (now seeds) ⌝ }
     ensures { λ r. ⌜ Grown p (r .epoch) (stage (now (words .entry)) stamp (c .len)) (stage (now (words .exit)) stamp (r .len))
         (joined (map (visits p (fromQuery (p .dim) (now (vectors .entry)) (now (query .entry))) (now (wide .entry))) (now (seeds .entry))))
         (fromQuery (p .dim) (now (vectors .entry)) (now (query .entry))) ⌝ }
+    ensures { λ r. ⌜ r .epoch ≡ c .epoch + length (now (seeds .entry)) ⌝ }
 {
     let mut s = c;
     let mut k = 0;
@@ -171,11 +174,12 @@ pub fn collect_pool(
     seeds: &[u32],
 ) -> Collected
     requires { ⌜ Walkable p (now vectors) (now query) (now wide) ⌝ }
-    requires { ⌜ Holding p epoch (stage (now words) stamp 0) ⌝ }
+    requires { ⌜ (epochAfter epoch (nodeWalks (now wide) start node (now seeds)) < epochEnd) × Holding p epoch (stage (now words) stamp 0) ⌝ }
     requires { ⌜ (node < p .n) × (start < p .n) × Below (p .n) (now seeds) ⌝ }
     ensures { λ r. ⌜ Grown p (r .epoch) (stage (now (words .entry)) stamp 0) (stage (now (words .exit)) stamp (r .len))
         (pooledIds p (fromQuery (p .dim) (now (vectors .entry)) (now (query .entry))) (now (wide .entry)) node start (now (seeds .entry)))
         (fromQuery (p .dim) (now (vectors .entry)) (now (query .entry))) ⌝ }
+    ensures { λ r. ⌜ r .epoch ≡ epochAfter epoch (nodeWalks (now (wide .entry)) start node (now (seeds .entry))) ⌝ }
 {
     let n = p.n;
     let width = p.width;

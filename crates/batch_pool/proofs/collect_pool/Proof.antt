@@ -1,12 +1,14 @@
 -- `collect_pool`. The row, the walk from the start and those from the seeds, one after another. The row goes into the pool's region, lent at the layout's
 -- offsets.
-use Prim.Native.Nat.{_+_, _*_, _≤_}
+use mathlib.Core.Path.{_≡_}
+use Prim.Native.Nat.{_+_, _*_, _≤_, _<_}
 use native.Mathlib.Omega.{arith}
 use lib.ListN.{length}
 use Rattle.definition.specs.Metric.{fromQuery}
 use Rattle.definition.specs.Tables.{ids}
 use Rattle.laws.specs.Parts.{part}
 use Rattle.laws.specs.Words.{searchable-part}
+use Rattle.theory.specs.build.Walks.{nodeWalks, node-walks, epochEnd}
 use Rattle.greedy.specs.Scratch.{row-in}
 use Rattle.batch_pool.specs.Regions.{stage, Grown}
 use Rattle.batch_pool.proofs.Lending.{returned}
@@ -22,7 +24,12 @@ called c = c .before .before .before .before .before .before .before
 -- the row is within the wide table
 fits : (c : tie.After-pool-end)
     → let a = called c .args in (a .node * a .p .width + a .p .width ≤ length (a .wide .now)) × (length (a .wide .now) ≤ 8388608)
-fits c = let s = called c in row-in (s .pre .0 .ground) (s .pre .1 .0 .room .space .nodes) (s .args .node) (s .pre .1 .1 .0)
+fits c = let s = called c in row-in (s .pre .0 .ground) (s .pre .1 .0 .1 .room .space .nodes) (s .args .node) (s .pre .1 .1 .0)
+
+-- its walks are one and those from the seeds
+walks : (s : tie.Start)
+    → let a = s .args in length (nodeWalks (a .wide .now) (a .start) (a .node) (a .seeds .now)) ≡ 1 + length (a .seeds .now)
+walks s = let a = s .args in node-walks (a .wide .now) (a .start) (a .node) (a .seeds .now)
 
 -- the row was added
 row-grown : (c : tie.After-add-row)
@@ -35,7 +42,7 @@ row-grown c =
     let r = c .add-row in
     let pa = o .before .pool-at .ensures in
     let pe = o .pool-end .ensures in
-    grown-row _ _ _ _ (called o .pre .1 .0) _ (rw (pa, pe) at (r .kept .0)) _ _ (rw (pa, pe) at (r .ensures))
+    grown-row _ _ _ _ (called o .pre .1 .0 .1) _ (rw (pa, pe) at (r .kept .0)) _ _ (rw (pa, pe) at (r .ensures))
 
 pool-at-requires : tie.Need-pool-at-requires
 pool-at-requires c κs = search needs
@@ -77,7 +84,7 @@ add-row-requires : tie.Need-add-row-requires
 add-row-requires c κs =
     let o = c .before .before in
     let s = called o in
-    let h = s .pre .1 .0 in
+    let h = s .pre .1 .0 .1 in
     let from = s .args .node * s .args .p .width in
     rw (o .before .pool-at .ensures, o .pool-end .ensures) (
       h .pooled,
@@ -92,13 +99,14 @@ add-walk-requires c κs =
     let r = c .before .before .before in
     let o = r .before .before .before in
     let s = called o in
-    rw (o .before .pool-at .ensures, o .pool-end .ensures) (s .pre .0, (row-grown r .holding, s .pre .1 .1 .1))
+    rw (o .before .pool-at .ensures, o .pool-end .ensures) (s .pre .0, ((omega (arith, walks s, s .pre .1 .0 .0), row-grown r .holding), s .pre .1 .1 .1))
 
 add-walks-requires : tie.Need-add-walks-requires
 add-walks-requires c κs =
     let a = c .before .before .before in
     let s = called (a .before .before .before .before .before .before .before) in
-    (s .pre .0, (a .add-walk .ensures .holding, s .pre .1 .1 .2))
+    let room : a .add-walk .result .epoch + length (s .args .seeds .now) < epochEnd = omega (arith, walks s, s .pre .1 .0 .0, a .add-walk .ensures .1) in
+    (s .pre .0, ((room, a .add-walk .ensures .0 .holding), s .pre .1 .1 .2))
 
 returns : tie.Need-returns
 returns c =
@@ -106,11 +114,14 @@ returns c =
     let a = z .before .before .before .before in
     let r = a .before .before .before .before in
     let o = r .before .before .before in
-    let walk = rw (o .before .pool-at .ensures, o .pool-end .ensures) at (a .add-walk .ensures) in
-    grown-pool _ _ _ _ _ _ _ _ _ _ _ _ _ (row-grown r) walk (z .add-walks .ensures)
+    let walk = rw (o .before .pool-at .ensures, o .pool-end .ensures) at (a .add-walk .ensures .0) in
+    (
+      grown-pool _ _ _ _ _ _ _ _ _ _ _ _ _ (row-grown r) walk (z .add-walks .ensures .0),
+      omega (arith, walks (called o), a .add-walk .ensures .1, z .add-walks .ensures .1),
+    )
 
 same-length : tie.Need-same-length
-same-length c = returns c .kept .size
+same-length c = returns c .0 .kept .size
 
 pub collect-pool-spec : {M : Type 1} → statement M
 collect-pool-spec =
