@@ -20,6 +20,12 @@ count e (x ∷ xs) = cond (eqb x e) (suc (count e xs)) (count e xs)
 abbrev pub Marks : ℕ → List ℕ → ℕ → Type 0
 Marks n words epoch = (i : ℕ) → i < n → getD words i 0 ≤ epoch
 
+-- the epoch with which a call begins, past no mark; and no word but the marks differs
+pub record FirstEpoch (n : ℕ) (before after : List ℕ) (r : ℕ) : Type 0 where
+  pub is : r ≡ 1
+  pub marks : Marks n after r
+  pub kept : Within 0 n before after
+
 -- the words of a row that are new, in their order: neither padding nor among the seen, each once
 unfoldable pub news : List ℕ → List ℕ → List ℕ
 news seen [] = []

@@ -5,7 +5,16 @@ ghost use mathlib.Core.Path.{_≡_};
 ghost use Prim.Native.Nat.{_+_, _≤_, _<_};
 ghost use lib.ListN.{length};
 ghost use Rattle.theory.specs.build.Walks.{epochEnd};
-ghost use Rattle.marks.specs.Marked.{Marked, markOf, newOf, Notes, Gathers};
+ghost use Rattle.marks.specs.Marked.{Marked, FirstEpoch, markOf, newOf, Notes, Gathers};
+
+// A call begins with zero marks and epoch 1.
+pub fn first_epoch(words: &mut [u32], n: usize) -> u32
+    requires { ⌜ n ≤ length (now words) ⌝ }
+    ensures { λ r. ⌜ FirstEpoch n (now (words .entry)) (now (words .exit)) r ⌝ }
+{
+    scratch::clear_words(&mut words[0..n]);
+    1
+}
 
 // The epoch of the next walk: one more, and so above every mark. No call makes so many walks that it comes near the last (theory, Walks).
 pub fn next_epoch(epoch: u32) -> u32
