@@ -3,24 +3,23 @@
 use mathlib.Core.Path.{_≡_, refl, sym, ap, _∙_}
 use mathlib.Core.Bool.{false}
 use mathlib.Core.List.{List}
-use Prim.Native.Nat.{ℕ, _-_, _≤_, min, max, zero-le}
-use native.Mathlib.Nat.{zero-add}
+use Prim.Native.Nat.{ℕ, _+_, _≤_, _<_, min, max, zero-le}
 use native.Mathlib.Omega.{arith}
-use borrow.Rule.Slice.PartMut.{putMid}
-use lib.ListN.{length, getD, drop, replicate}
+use lib.ListN.{length, drop}
 use Rattle.definition.specs.Metric.{fromQuery}
 use Rattle.definition.specs.Tables.{cleaned}
 use Rattle.definition.specs.Floats.{nought}
 use Rattle.definition.specs.Search.{ranked}
 use Rattle.definition.specs.Outcome.{answer, searchDone}
 use Rattle.definition.specs.Refusals.{SearchCall, searchWords, mostAnswers}
-use Rattle.laws.specs.Parts.{part, Within, within-wider, within-trans}
+use Rattle.laws.specs.Parts.{Within, within-wider, within-trans}
 use Rattle.laws.specs.Filled.{cleared-same}
 use Rattle.laws.specs.Cleaned.{length-cleaned}
 use Rattle.scratch.specs.Lent.{Lent, lent}
 use Rattle.scratch.specs.Layout.{searchEnd, searchFloatsEnd}
-use Rattle.scratch.specs.Zeroed.{zeroed-within, zeroed-at}
 use Rattle.beam.specs.Keys.{Rising}
+use Rattle.theory.specs.build.Walks.{epochEnd}
+use Rattle.marks.specs.Marked.{FirstEpoch}
 use Rattle.kept.specs.Says.{Tells}
 use Rattle.greedy.specs.declared.Plan.{Plan}
 use Rattle.greedy.specs.declared.Walked.{Walked}
@@ -43,38 +42,29 @@ module _ (c : SearchCall) (a : Accepted c) (table : List ℕ) (table-is : c .tab
         narrow = omega (arith, a .degree-few);
       }
 
-  -- the marks were cleared: ys came back
-  module _ (ys : List ℕ) (zero-marks : ys ≡ replicate (length (part 0 (c .n) (c .words))) 0) (b : ℕ) (b-is : b ≡ max (c .beam) 1) where
+  -- the marks were cleared
+  module _ (marked : List ℕ) (epoch : ℕ) (first : FirstEpoch (c .n) (c .words) marked epoch) (b : ℕ) (b-is : b ≡ max (c .beam) 1) where
     abbrev n : ℕ
     n = c .n
 
-    abbrev marked : List ℕ
-    marked = putMid 0 (n - 0) (c .words) ys
-
-    marks-room : n ≤ length (c .words)
-    marks-room = omega (arith, a .word-room)
-
-    pub front : Within 0 n (c .words) marked
-    front = zeroed-within 0 n (c .words) zero-le marks-room zero-marks
-
     -- ---- the walk may begin
-    pub start-room : Room (planOf c b) 1 marked
+    pub start-room : (epoch + 1 < epochEnd) × Room (planOf c b) epoch marked
     unfolding walkEnd
-    start-room =
-        record {
-          space = record { nodes = a .nodes; room = omega (arith, a .word-room, front .size); beam-le = omega (arith, a .beam-few) };
-          marks = λ i h.
-              let zero : getD marked i 0 ≡ 0 = rw (zero-add i) at (zeroed-at 0 n (c .words) zero-le marks-room zero-marks i (omega arith)) in
-              omega (arith, zero);
-        }
+    start-room = (
+      omega (arith, first .is),
+      record {
+        space = record { nodes = a .nodes; room = omega (arith, a .word-room, first .kept .size); beam-le = omega (arith, a .beam-few) };
+        marks = first .marks;
+      },
+    )
 
     module _ (after keys : List ℕ) (r : Walked)
-        (walks : Walks (planOf c b) 1 marked after keys r (walkOf (planOf c b) (fromQuery (c .dim) (c .vectors) (c .query)) table (c .start)))
+        (walks : Walks (planOf c b) epoch marked after keys r (walkOf (planOf c b) (fromQuery (c .dim) (c .vectors) (c .query)) table (c .start)))
         (count : ℕ) (count-is : count ≡ min (c .k) (r .work)) where
       kept : Within 0 (searchEnd n) (c .words) after
       unfolding walkEnd
       kept =
-          within-trans 0 (searchEnd n) (c .words) _ after (within-wider 0 n _ _ front 0 (searchEnd n) zero-le (omega arith))
+          within-trans 0 (searchEnd n) (c .words) _ after (within-wider 0 n _ _ (first .kept) 0 (searchEnd n) zero-le (omega arith))
           (within-wider 0 _ _ _ (walks .words-kept) 0 (searchEnd n) zero-le (omega arith))
 
       -- ---- the answers may be listed, and the room wiped

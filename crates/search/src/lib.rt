@@ -68,8 +68,8 @@ pub fn lookup_accepted(
         beam: most,
         keep: false,
     };
-    scratch::clear_words(&mut words[0..n]);
-    let walked = greedy::greedy(words, &mut keys, vectors, query, table, p, 1, start);
+    let epoch = marks::first_epoch(words, n);
+    let walked = greedy::greedy(words, &mut keys, vectors, query, table, p, epoch, start);
     let count = laws::least(k, walked.work);
     listing::list_answers(&keys, walked.work, count, ids, dists);
     wipe(words, floats, n);

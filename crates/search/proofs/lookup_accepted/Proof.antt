@@ -3,7 +3,7 @@ use mathlib.Core.Path.{refl, _∙_}
 use Rattle.definition.specs.Refusals.{SearchCall}
 use Rattle.definition.specs.Outcome.{cleanedCall}
 use Rattle.checks_number.specs.SearchNumber.{callOf}
-use Rattle.search.proofs.Passing.{front, start-ground, start-room, list-room, wipe-room, done}
+use Rattle.search.proofs.Passing.{start-ground, start-room, list-room, wipe-room, done}
 use borrow.Author.Needs.{needs}
 use Rattle.search.proofs.lookup_accepted.Statement.{statement}
 use Rattle.search.proofs.lookup_accepted.Tie as tie
@@ -19,10 +19,10 @@ asked s =
 abbrev at-beam : tie.After-raised → tie.Start
 at-beam c = c .before .before .before .before .before .before .before .before
 
-abbrev at-marks : tie.After-clear-words → tie.Start
+abbrev at-marks : tie.After-first-epoch → tie.Start
 at-marks c = at-beam (c .before .before)
 
-abbrev marked : tie.After-greedy → tie.After-clear-words
+abbrev marked : tie.After-greedy → tie.After-first-epoch
 marked c = c .before .before .before .before .before
 
 abbrev at-walk : tie.After-greedy → tie.Start
@@ -31,18 +31,9 @@ at-walk c = at-marks (marked c)
 raised-requires : tie.Need-raised-requires
 raised-requires c κs = search needs
 
-sub-clear-words : tie.Need-sub-clear-words
-sub-clear-words c = search needs
-
-part-clear-words-start : tie.Need-part-clear-words-start
-part-clear-words-start c = search needs
-
-part-clear-words-end : tie.Need-part-clear-words-end
+first-epoch-requires : tie.Need-first-epoch-requires
 unfolding cleanedCall
-part-clear-words-end c = search needs
-
-clear-words-requires : tie.Need-clear-words-requires
-clear-words-requires c κs = search needs
+first-epoch-requires c κs = search needs
 
 slice-aggregate-greedy : tie.Need-slice-aggregate-greedy
 slice-aggregate-greedy c = search needs
@@ -52,7 +43,7 @@ unfolding cleanedCall
 greedy-requires c κs =
     let k = c .before .before .before .before in
     let s = at-marks k in (
-      start-room (asked s) (s .pre) (s .args .table .now) refl _ (k .clear-words .ensures) _ (k .before .before .raised .ensures),
+      start-room (asked s) (s .pre) (s .args .table .now) refl _ _ (k .first-epoch .ensures) _ (k .before .before .raised .ensures),
       (refl, (start-ground (asked s) (s .pre) (s .args .table .now) refl _, s .pre .start-in)),
     )
 
@@ -69,7 +60,7 @@ list-answers-requires c κs =
     let g = l .before .before .before .before in
     let s = at-walk g in
     let k = marked g in
-    list-room (asked s) (s .pre) (s .args .table .now) refl _ (k .clear-words .ensures) _ (k .before .before .raised .ensures)
+    list-room (asked s) (s .pre) (s .args .table .now) refl _ _ (k .first-epoch .ensures) _ (k .before .before .raised .ensures)
     _ _ _ (g .greedy .ensures) _ (l .least .ensures) (g .greedy .kept .1 .0)
 
 wipe-requires : tie.Need-wipe-requires
@@ -79,7 +70,7 @@ wipe-requires c κs =
     let g = l .before .before .before .before in
     let s = at-walk g in
     let k = marked g in
-    wipe-room (asked s) (s .pre) (s .args .table .now) refl _ (k .clear-words .ensures) _ (k .before .before .raised .ensures)
+    wipe-room (asked s) (s .pre) (s .args .table .now) refl _ _ (k .first-epoch .ensures) _ (k .before .before .raised .ensures)
     _ _ _ (g .greedy .ensures) _ (l .least .ensures)
 
 same-length : tie.Need-same-length
@@ -89,8 +80,7 @@ same-length c =
     let g = w .before .before .before .before .before .before .before .before .before .before .before .before .before .before .before in
     let s = at-walk g in
     let k = marked g in
-    w .wipe .kept .0 ∙ g .greedy .kept .0
-    ∙ front (asked s) (s .pre) (s .args .table .now) refl _ (k .clear-words .ensures) _ (k .before .before .raised .ensures) .size
+    w .wipe .kept .0 ∙ g .greedy .kept .0 ∙ marked g .first-epoch .ensures .kept .size
 
 same-length-2 : tie.Need-same-length-2
 same-length-2 c = search needs
@@ -110,7 +100,7 @@ returns c =
     let g = l .before .before .before .before in
     let s = at-walk g in
     let k = marked g in
-    done (asked s) (s .pre) (s .args .table .now) refl _ (k .clear-words .ensures) _ (k .before .before .raised .ensures)
+    done (asked s) (s .pre) (s .args .table .now) refl _ _ (k .first-epoch .ensures) _ (k .before .before .raised .ensures)
     _ _ _ (g .greedy .ensures) _ (l .least .ensures) _ (t .list-answers .ensures) _ (w .wipe .ensures)
 
 pub lookup-accepted-spec : {M : Type 1} → statement M
@@ -118,10 +108,7 @@ lookup-accepted-spec =
     tie.close
     (tie.spec
     raised-requires
-    sub-clear-words
-    part-clear-words-start
-    part-clear-words-end
-    clear-words-requires
+    first-epoch-requires
     slice-aggregate-greedy
     greedy-requires
     least-requires
