@@ -4,6 +4,7 @@ use mathlib.Core.Logic.{_⊎_, inl, inr}
 use mathlib.Core.List.{List, [], _∷_, List·Memᴰ as Mem}
 use Prim.Native.Nat.{ℕ, suc, _+_, _*_, _-_, _≤_, _<_}
 use native.Mathlib.Nat.{add-sub-cancel-left, eq-or-lt-of-le, suc-mul, zero-mul, add-comm}
+use native.Mathlib.Numerals.{add-one}
 use native.Mathlib.Omega.{arith}
 use lib.ListN.{length, getD, take, drop, length-take, length-drop}
 use lib.Seq.{drop-drop}
@@ -11,15 +12,16 @@ use Rattle.definition.specs.Lists.{groups}
 use Rattle.definition.specs.Tables.{pad, ids, padded}
 use Rattle.definition.specs.Batch.{Setting, Listed, freshOf, freshRows}
 use Rattle.laws.specs.Listed.{freshWidth, listedAt}
-use Rattle.laws.specs.Tables.{ids-of}
-use Rattle.laws.specs.Parts.{part, part-at, within-none, within-wider, within-trans}
+use Rattle.laws.specs.Tables.{ids-of, row-fits}
+use Rattle.laws.specs.Parts.{part, part-length, part-at, within-none, within-wider, within-trans}
 use Rattle.laws.specs.Words.{Below}
+use Rattle.theory.specs.build.Walks.{node-walks, batch-walks, epochAfter, epochEnd}
 use Rattle.scratch.specs.Layout.{mostFactors, freshAt, freshRowAt}
 use Rattle.scratch.specs.Lent.{Lent}
 use Rattle.given.specs.Given.{Given, setting}
 use Rattle.given.specs.Listing.{Listing, Listable}
 use Rattle.given.specs.Fresh.{freshRow}
-use Rattle.batch_fresh.specs.Made.{Fit, Insertion, insertion, Insertable, inserted, freshFor, RowMade, RowsMade, FreshRows}
+use Rattle.batch_fresh.specs.Made.{Fit, Insertion, insertion, Insertable, inserted, walksFor, walksOf, freshFor, RowMade, RowsMade, FreshRows}
 
 ids-padded : (width : ℕ) (xs : List ℕ) → ((x : ℕ) → Mem x xs → x ≡ pad → ⊥) → ids (padded width xs) ≡ xs
 unfolding padded
@@ -130,3 +132,33 @@ insertable {g} {l} p r h =
       start-in = r .start-in;
       seeds-in = group-below (g .n) a (a + g .params .extra) (l .seeds) (r .seeds-in);
     }
+
+-- ---- the epoch: one and its seeds for each node
+module _ {g : Given} {l : Listing} (ok : Listable g l) (wide : List ℕ) where
+  abbrev extra : ℕ
+  extra = g .params .extra
+
+  all-walks : length (walksOf g wide l) ≡ length (l .nodes) + length (l .nodes) * extra
+  all-walks = batch-walks wide (l .start) extra (l .nodes) (l .seeds) (ok .groups) ∙ ap (λ (k : ℕ). length (l .nodes) + k) (ok .groups)
+
+  module _ (epoch p : ℕ) {last : ℕ} (is : last ≡ epoch + (p + p * extra)) where
+    module _ (more : p < length (l .nodes)) where
+      -- its group is whole
+      group-ends : p * extra + extra ≤ length (l .nodes) * extra
+      group-ends = row-fits p (length (l .nodes)) extra more
+
+      next-walks : length (walksFor wide (lentTo g l p)) ≡ 1 + extra
+      next-walks =
+          let size = ok .groups in
+          let ends = group-ends in
+          let group = part-length (p * extra) (p * extra + extra) (l .seeds) (omega arith) in
+          omega (arith, node-walks wide (l .start) (getD (l .nodes) p 0) (lentTo g l p .seeds))
+
+      pub epoch-room : epochAfter epoch (walksOf g wide l) < epochEnd → epochAfter last (walksFor wide (lentTo g l p)) < epochEnd
+      epoch-room room = omega (arith, all-walks, next-walks, group-ends)
+
+      pub epoch-more : {r : ℕ} → r ≡ epochAfter last (walksFor wide (lentTo g l p)) → r ≡ epoch + ((p + 1) + (p + 1) * extra)
+      epoch-more e = let one : (p + 1) * extra ≡ p * extra + extra = rw (add-one p) (suc-mul p extra) in omega (arith, next-walks)
+
+    pub epoch-all : p ≡ length (l .nodes) → last ≡ epochAfter epoch (walksOf g wide l)
+    epoch-all all = let q : p * extra ≡ length (l .nodes) * extra = ap (λ (k : ℕ). k * extra) all in omega (arith, all-walks)

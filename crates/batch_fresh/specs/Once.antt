@@ -19,6 +19,7 @@ use Rattle.scratch.specs.Lent.{Lent}
 use Rattle.given.specs.Given.{Given, WalkLimits}
 use Rattle.given.specs.Listing.{Listing}
 use Rattle.given.specs.Fresh.{entry}
+use Rattle.marks.specs.Marked.{Marks}
 use Rattle.greedy.specs.Scratch.{walk-end-all}
 use Rattle.batch_fresh.specs.Made.{planOf, Between, Fit, RowsMade, freshFor, inserted}
 
@@ -77,14 +78,14 @@ module _ {g : Given} {wide : List ℕ} {l : Listing} {before after : Lent} {k : 
       subst (λ (z : ℕ). z < g .n) e
       (padded-below (m .fits s q) (a - freshWidth * s) (omega arith) (λ z. p (sym e ∙ z)) (ltb (a - freshWidth * s) (length (rowOf s))) refl)
 
--- ---- marks and stamps are 0
-pub between-start : (g : Given) (words : List ℕ) → WalkLimits g → freshEnd (g .n) ≤ length words → ((i : ℕ) → i < g .n → getD words i 0 ≡ 0)
-    → ((i : ℕ) → i < g .n → getD words (stampsAt (g .n) + i) 0 ≡ 0) → Between g 1 0 words
-between-start g words limits room marks stamps =
+-- ---- no mark is past the epoch, and stamps are 0
+pub between-start : {g : Given} {epoch : ℕ} {words : List ℕ} → WalkLimits g → freshEnd (g .n) ≤ length words → Marks (g .n) words epoch
+    → ((i : ℕ) → i < g .n → getD words (stampsAt (g .n) + i) 0 ≡ 0) → Between g epoch 0 words
+between-start {g} limits room marks stamps =
     record {
       room = record {
         space = record { nodes = limits .limits .nodes; room = omega (arith, walk-end-all (planOf g) refl); beam-le = limits .beam-few };
-        marks = λ i h. let k = marks i h in omega arith;
+        marks = marks;
       };
       word-room = room;
       stamps = λ i h. let k = stamps i h in omega arith;

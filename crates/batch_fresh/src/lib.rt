@@ -5,13 +5,16 @@ use given::Ground;
 use greedy::Plan;
 use prune::prune_neighbors;
 use table::put_row;
-ghost use Prim.Native.Nat.{_+_, _≤_};
+ghost use mathlib.Core.Path.{_≡_};
+ghost use Prim.Native.Nat.{_+_, _≤_, _<_};
 ghost use lib.ListN.{length};
 ghost use Rattle.scratch.specs.Layout.{mostFactors};
 ghost use Rattle.scratch.specs.Lent.{lent};
 ghost use Rattle.given.specs.Given.{given, WalkLimits, Wide};
 ghost use Rattle.given.specs.Listing.{listing, Listable};
-ghost use Rattle.batch_fresh.specs.Made.{Between, insertion, Insertable, NodePool, RowMade, FreshRows};
+ghost use Rattle.theory.specs.build.Walks.{epochAfter, epochEnd};
+ghost use Rattle.marks.specs.Marked.{Marks};
+ghost use Rattle.batch_fresh.specs.Made.{Between, insertion, Insertable, walksFor, walksOf, NodePool, RowMade, FreshRows};
 ghost use Rattle.batch_fresh.specs.Says.{Prunable, prunedFor, Fresh};
 
 // The fresh row at `place`, pruned from the pool of a node, which has len ids. The words are lent for the pool while the row is made, so it is made beside them
@@ -66,8 +69,10 @@ fn node_pool(
     requires { ⌜ Wide (given g (now vectors)) (now wide) ⌝ }
     requires { ⌜ Between (given g (now vectors)) epoch p (now words) ⌝ }
     requires { ⌜ Insertable (given g (now vectors)) (insertion p node start (now seeds)) ⌝ }
+    requires { ⌜ epochAfter epoch (walksFor (now wide) (insertion p node start (now seeds))) < epochEnd ⌝ }
     ensures { λ r. ⌜ NodePool (given g (now (vectors .entry))) (now (wide .entry)) (insertion p node start (now (seeds .entry)))
         (now (words .entry)) (now (words .exit)) r ⌝ }
+    ensures { λ r. ⌜ r .epoch ≡ epochAfter epoch (walksFor (now (wide .entry)) (insertion p node start (now (seeds .entry)))) ⌝ }
 {
     let dim = g.dim;
     let at = node * dim;
@@ -112,9 +117,11 @@ fn fresh_row(
     requires { ⌜ Between (given g (now vectors)) epoch p (now words) ⌝ }
     requires { ⌜ mostFactors ≤ length (now floats) ⌝ }
     requires { ⌜ Insertable (given g (now vectors)) (insertion p node start (now seeds)) ⌝ }
+    requires { ⌜ epochAfter epoch (walksFor (now wide) (insertion p node start (now seeds))) < epochEnd ⌝ }
     ensures { λ r. ⌜ RowMade (given g (now (vectors .entry))) (now (wide .entry)) (insertion p node start (now (seeds .entry)))
         (lent (now (words .entry)) (now (floats .entry))) (lent (now (words .exit)) (now (floats .exit))) ⌝ }
     ensures { λ r. ⌜ Between (given g (now (vectors .entry))) r (p + 1) (now (words .exit)) ⌝ }
+    ensures { λ r. ⌜ r ≡ epochAfter epoch (walksFor (now (wide .entry)) (insertion p node start (now (seeds .entry)))) ⌝ }
 {
     let u = node as usize;
     let c = node_pool(g, vectors, epoch, p, u, start, seeds, wide, words);
@@ -122,35 +129,40 @@ fn fresh_row(
     c.epoch
 }
 
-// The fresh rows of all listed nodes, one after another, all from the wide rows as they are.
+// The fresh rows of all listed nodes, one after another, all from the wide rows as they are. Returns the epoch of the last walk.
 pub fn fresh_rows(
     g: Ground,
     vectors: &[u8],
+    epoch: u32,
     start: u32,
     nodes: &[u32],
     seeds: &[u32],
     wide: &[u32],
     words: &mut [u32],
     floats: &mut [f32],
-)
+) -> u32
     requires { ⌜ WalkLimits (given g (now vectors)) ⌝ }
     requires { ⌜ Wide (given g (now vectors)) (now wide) ⌝ }
     requires { ⌜ Listable (given g (now vectors)) (listing start (now nodes) (now seeds)) ⌝ }
-    requires { ⌜ Between (given g (now vectors)) 1 0 (now words) ⌝ }
+    requires { ⌜ Between (given g (now vectors)) epoch 0 (now words) ⌝ }
     requires { ⌜ mostFactors ≤ length (now floats) ⌝ }
-    ensures { λ _. ⌜ FreshRows (given g (now (vectors .entry))) (now (wide .entry)) (listing start (now (nodes .entry)) (now (seeds .entry)))
+    requires { ⌜ epochAfter epoch (walksOf (given g (now vectors)) (now wide) (listing start (now nodes) (now seeds))) < epochEnd ⌝ }
+    ensures { λ r. ⌜ FreshRows (given g (now (vectors .entry))) (now (wide .entry)) (listing start (now (nodes .entry)) (now (seeds .entry)))
         (lent (now (words .entry)) (now (floats .entry))) (lent (now (words .exit)) (now (floats .exit))) ⌝ }
+    ensures { λ r. ⌜ Marks (g .n) (now (words .exit)) r ⌝ }
+    ensures { λ r. ⌜ r ≡ epochAfter epoch
+        (walksOf (given g (now (vectors .entry))) (now (wide .entry)) (listing start (now (nodes .entry)) (now (seeds .entry)))) ⌝ }
 {
     let extra = g.params.extra;
-    let mut epoch = 1;
+    let mut last = epoch;
     let mut p = 0;
     while p < nodes.len() {
         let a = p * extra;
         let e = a + extra;
-        epoch = fresh_row(
+        last = fresh_row(
             g,
             vectors,
-            epoch,
+            last,
             p,
             nodes[p],
             start,
@@ -161,4 +173,5 @@ pub fn fresh_rows(
         );
         p += 1;
     }
+    last
 }

@@ -21,7 +21,7 @@ prune-fresh-requires : tie.Need-prune-fresh-requires
 prune-fresh-requires c κs =
     let pooled = c .before .before .before .before in
     let s = called pooled in
-    prune-asks (s .pre .0) (bytes pooled) (pooled .node-pool .ensures) (s .pre .1 .1 .0) (s .pre .1 .1 .1 .1 .place-in) (s .pre .1 .1 .1 .0)
+    prune-asks (s .pre .0) (bytes pooled) (pooled .node-pool .ensures .0) (s .pre .1 .1 .0) (s .pre .1 .1 .1 .1 .0 .place-in) (s .pre .1 .1 .1 .0)
 
 returns : tie.Need-returns
 returns c =
@@ -29,9 +29,12 @@ returns c =
     let pooled = pruned .before .before .before .before .before in
     let s = called pooled in
     let ready = s .pre .1 .1 .0 in
-    let early = s .pre .1 .1 .1 .1 .place-in in (
-      row-made (s .pre .0) (bytes pooled) (pooled .node-pool .ensures) ready early (pruned .prune-fresh .ensures),
-      row-between (s .pre .0) (bytes pooled) (pooled .node-pool .ensures) ready early (pruned .prune-fresh .ensures),
+    let early = s .pre .1 .1 .1 .1 .0 .place-in in (
+      row-made (s .pre .0) (bytes pooled) (pooled .node-pool .ensures .0) ready early (pruned .prune-fresh .ensures),
+      (
+        row-between (s .pre .0) (bytes pooled) (pooled .node-pool .ensures .0) ready early (pruned .prune-fresh .ensures),
+        pooled .node-pool .ensures .1,
+      ),
     )
 
 same-length : tie.Need-same-length

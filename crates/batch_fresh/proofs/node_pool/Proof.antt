@@ -19,7 +19,7 @@ use Rattle.batch_fresh.proofs.node_pool.Tie as tie
 fits : (c : tie.Start) → c .args .node * c .args .g .dim + c .args .g .dim ≤ length (c .args .vectors .now)
 fits c =
     let a = c .args in
-    omega (arith, row-fits (a .node) (a .g .n) (a .g .dim) (c .pre .1 .1 .1 .node-in), c .pre .0 .limits .vectors-are)
+    omega (arith, row-fits (a .node) (a .g .n) (a .g .dim) (c .pre .1 .1 .1 .0 .node-in), c .pre .0 .limits .vectors-are)
 
 mul-at : tie.Need-mul-at
 mul-at c = let s = c .before .before .before .before in omega (arith, fits s, s .good .1 .0)
@@ -47,7 +47,7 @@ collect-pool-requires c κs =
     let s = c .before .before .before .before .before .before in
     let a = s .args in
     let limits = s .pre .0 .limits in
-    let i = s .pre .1 .1 .1 in
+    let i = s .pre .1 .1 .1 .0 in
     let v = vector-in (a .g .dim) (a .vectors .now) (a .g .n) (a .node) (limits .vectors-are) (i .node-in) in (
       record {
         ground =
@@ -59,7 +59,7 @@ collect-pool-requires c κs =
         keeps = refl;
         rows = s .pre .1 .0 .words;
       },
-      (holding-blank (s .pre .1 .1 .0), (i .node-in, i .start-in, i .seeds-in)),
+      ((s .pre .1 .1 .1 .1, holding-blank (s .pre .1 .1 .0)), (i .node-in, i .start-in, i .seeds-in)),
     )
 
 returns : tie.Need-returns
@@ -69,16 +69,19 @@ returns c =
     let a = s .args in
     let plan = planOf (given (a .g) (a .vectors .now)) in
     let from : List ℕ → ℕ → ℕ = fromQuery (a .g .dim) (a .vectors .now) in
-    record {
-      grown =
-          subst
-          (λ (v : List ℕ). Grown plan (k .result .epoch) (stage (a .words .now) (a .p + 1) 0) (stage (k .last .0) (a .p + 1) (k .result .len))
-          (pooledIds plan (from v) (a .wide .now) (a .node) (a .start) (a .seeds .now)) (from v))
-          (lent-vector (a .g .dim) (a .vectors .now) (a .node)) (k .ensures);
-    }
+    (
+      record {
+        grown =
+            subst
+            (λ (v : List ℕ). Grown plan (k .result .epoch) (stage (a .words .now) (a .p + 1) 0) (stage (k .last .0) (a .p + 1) (k .result .len))
+            (pooledIds plan (from v) (a .wide .now) (a .node) (a .start) (a .seeds .now)) (from v))
+            (lent-vector (a .g .dim) (a .vectors .now) (a .node)) (k .ensures .0);
+      },
+      k .ensures .1,
+    )
 
 same-length : tie.Need-same-length
-same-length c = returns c .grown .kept .size
+same-length c = returns c .0 .grown .kept .size
 
 pub node-pool-spec : {M : Type 1} → statement M
 node-pool-spec =
