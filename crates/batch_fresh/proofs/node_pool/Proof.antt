@@ -68,8 +68,7 @@ returns c =
     let s = c .before .before .before .before .before .before .before .before .before in
     let a = s .args in
     let plan = planOf (given (a .g) (a .vectors .now)) in
-    let from : List ℕ → ℕ → ℕ = fromQuery (a .g .dim) (a .vectors .now) in
-    (
+    let from : List ℕ → ℕ → ℕ = fromQuery (a .g .dim) (a .vectors .now) in (
       record {
         grown =
             subst

@@ -68,8 +68,7 @@ returns : tie.Need-returns Inv-loop μ-loop
 returns c =
     let l = c .before in
     let s = l .before .before .before .before .before .before in
-    let d = fromQuery (s .args .p .dim) (s .args .vectors .now) (s .args .query .now) in
-    (
+    let d = fromQuery (s .args .p .dim) (s .args .vectors .now) (s .args .query .now) in (
       rw (joined-all (visits (s .args .p) d (s .args .wide .now)) (s .args .seeds .now) (l .loop .k) (omega arith)) at (l .loop .inv .2),
       omega (arith, l .loop .inv .0, l .loop .inv .1),
     )

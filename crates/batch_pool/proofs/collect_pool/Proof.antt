@@ -114,8 +114,7 @@ returns c =
     let a = z .before .before .before .before in
     let r = a .before .before .before .before in
     let o = r .before .before .before in
-    let walk = rw (o .before .pool-at .ensures, o .pool-end .ensures) at (a .add-walk .ensures .0) in
-    (
+    let walk = rw (o .before .pool-at .ensures, o .pool-end .ensures) at (a .add-walk .ensures .0) in (
       grown-pool _ _ _ _ _ _ _ _ _ _ _ _ _ (row-grown r) walk (z .add-walks .ensures .0),
       omega (arith, walks (called o), a .add-walk .ensures .1, z .add-walks .ensures .1),
     )

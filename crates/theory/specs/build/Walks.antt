@@ -67,13 +67,15 @@ pub batch-walks : (wide : List ℕ) (start extra : ℕ) (nodes seeds : List ℕ)
 unfolding batchWalks groups
 batch-walks wide start extra [] seeds h = omega (arith, zero-mul extra)
 batch-walks wide start extra (u ∷ us) seeds h =
-    omega (arith,
+    omega (
+      arith,
       length-append (nodeWalks wide start u (take extra seeds)) (batchWalks wide start us (groups (length us) extra (drop extra seeds))),
       node-walks wide start u (take extra seeds),
       length-take extra seeds,
       length-drop extra seeds,
       suc-mul (length us) extra,
-      batch-walks wide start extra us (drop extra seeds) (omega (arith, length-drop extra seeds, suc-mul (length us) extra)))
+      batch-walks wide start extra us (drop extra seeds) (omega (arith, length-drop extra seeds, suc-mul (length us) extra)),
+    )
 
 pub run-walks : (g : Setting) (start extra fuel : ℕ) (order seeds wide : List ℕ) → length order ≤ fuel → length seeds ≡ length order * extra
     → length (runWalks g start extra fuel order seeds wide) ≡ length order + length seeds
@@ -89,14 +91,16 @@ run-walks g start extra (suc fuel) (u ∷ us) seeds wide f h =
     let cut = seeds-cut extra 256 order seeds h in
     let left = length-drop 256 order in
     let next = batch g start extra nodes own wide in
-    omega (arith,
+    omega (
+      arith,
       length-append (batchWalks wide start nodes (groups (length nodes) extra own)) (runWalks g start extra fuel (drop 256 order) later next),
       batch-walks wide start extra nodes own (cut .taken),
       run-walks g start extra fuel (drop 256 order) later next (omega arith) (cut .dropped),
       length-take 256 order,
       left,
       length-take (256 * extra) seeds,
-      length-drop (256 * extra) seeds)
+      length-drop (256 * extra) seeds,
+    )
 
 -- ---- the epoch: 1 when a call begins, and each walk adds 1
 
