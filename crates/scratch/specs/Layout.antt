@@ -51,15 +51,19 @@ pub factors-cut : mostFactors ≡ cut
 unfolding cut
 factors-cut = refl
 
--- Words of the merge, where walks and pools were: the heads of the chains from 0 on, the seats of the listed, and a link for each word of a fresh row
+-- Words of the merge, behind the marks, where all else of walks and pools was, so that the marks last from one batch to the next: the heads of the chains,
+-- the seats of the listed, and a link for each word of a fresh row
+abbrev pub headsAt : ℕ → ℕ
+headsAt n = n
+
 abbrev pub seatsAt : ℕ → ℕ
-seatsAt n = n
+seatsAt n = 2 * n
 
 abbrev pub linksAt : ℕ → ℕ
-linksAt n = 2 * n
+linksAt n = 3 * n
 
 abbrev pub linksEnd : ℕ → ℕ
-linksEnd n = 2 * n + 16384
+linksEnd n = 3 * n + 16384
 
 -- The fresh rows of a batch, 64 words each: they outlast walks, pools and merge
 abbrev pub freshAt : ℕ → ℕ
@@ -128,10 +132,10 @@ module _ (n : ℕ) where
   abbrev pub freshFloatRegions : List Region
   freshFloatRegions = lies 0 mostFactors ∷ lies mostFactors (4 * n + 274) ∷ []
 
-  -- while the rows are merged: heads, seats, links, spare, the fresh rows
+  -- while the rows are merged: marks, heads, seats, links, spare, the fresh rows
   abbrev pub mergeWordRegions : List Region
   mergeWordRegions =
-      lies 0 n ∷ lies (seatsAt n) n ∷ lies (linksAt n) 16384 ∷ lies (linksEnd n) (4 * n) ∷ lies (freshAt n) 16384 ∷ []
+      lies 0 n ∷ lies (headsAt n) n ∷ lies (seatsAt n) n ∷ lies (linksAt n) 16384 ∷ lies (linksEnd n) (3 * n) ∷ lies (freshAt n) 16384 ∷ []
 
   pub search-words-filled : Fills 0 searchWordRegions (searchWords n)
   unfolding searchWords Fills
@@ -157,4 +161,4 @@ module _ (n : ℕ) where
 
   pub merge-words-filled : Fills 0 mergeWordRegions (buildWords n)
   unfolding buildWords Fills
-  merge-words-filled = (refl, (omega arith, (omega arith, (omega arith, (omega arith, omega arith)))))
+  merge-words-filled = (refl, (omega arith, (omega arith, (omega arith, (omega arith, (omega arith, omega arith))))))

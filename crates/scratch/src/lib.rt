@@ -3,7 +3,7 @@ ghost use mathlib.Core.Path.{_≡_};
 ghost use Prim.Native.Nat.{_+_, _*_, _≤_, _<_};
 ghost use lib.ListN.{length, replicate};
 ghost use lib.Ieee.{ofBits, binary32};
-ghost use Rattle.scratch.specs.Layout.{visitedAt, visitedDistsAt, poolAt, stampsAt, poolDistsAt, poolEnd, linksAt, linksEnd};
+ghost use Rattle.scratch.specs.Layout.{visitedAt, visitedDistsAt, poolAt, stampsAt, poolDistsAt, poolEnd, headsAt, seatsAt, linksAt, linksEnd};
 ghost use Rattle.scratch.specs.Layout.{freshAt, freshRowAt, freshEnd, searchEnd, searchFloatsEnd, reportEnd, reportFloatsEnd, floatsEnd};
 ghost use Rattle.scratch.specs.Clear.{FrontClear, RoomClear};
 
@@ -60,19 +60,33 @@ pub fn pool_end(n: usize) -> usize
     6 * n + 256
 }
 
-// Words of the merge: heads from 0, seats from n, links.
+// Words of the merge, behind the marks: heads, seats, links.
+pub fn heads_at(n: usize) -> usize
+    requires { ⌜ n ≤ 65536 ⌝ }
+    ensures { λ r. ⌜ r ≡ headsAt n ⌝ }
+{
+    n
+}
+
+pub fn seats_at(n: usize) -> usize
+    requires { ⌜ n ≤ 65536 ⌝ }
+    ensures { λ r. ⌜ r ≡ seatsAt n ⌝ }
+{
+    2 * n
+}
+
 pub fn links_at(n: usize) -> usize
     requires { ⌜ n ≤ 65536 ⌝ }
     ensures { λ r. ⌜ r ≡ linksAt n ⌝ }
 {
-    2 * n
+    3 * n
 }
 
 pub fn links_end(n: usize) -> usize
     requires { ⌜ n ≤ 65536 ⌝ }
     ensures { λ r. ⌜ r ≡ linksEnd n ⌝ }
 {
-    2 * n + 16384
+    3 * n + 16384
 }
 
 // The fresh rows, and the p-th of them.
