@@ -6,7 +6,7 @@ use mathlib.Core.Path.{_≡_, refl, sym, ap, _∙_}
 use mathlib.Core.List.{List, [], _∷_, map}
 use lib.ListN.{length, getD, take}
 use Rattle.laws.specs.Listed.{freshWidth}
-use Rattle.scratch.specs.Layout.{linksAt}
+use Rattle.scratch.specs.Layout.{headsAt, linksAt}
 use Rattle.given.specs.Fresh.{Merging, entry, entriesOf}
 use Rattle.batch_ids.specs.Grown.{grown, wanted, grown-cons}
 use Rattle.batch_ids.specs.Says.{Rises, Grew}
@@ -55,10 +55,11 @@ module _ {f : Merging} {node : ℕ} (own : node < f .n) (ch : Chains f) where
   unfolding sources
   sources-none = ap (map whose) (named-none at node)
 
-  pub along-start : {l₀ : Front} {e o : ℕ} → o ≡ node → e ≡ getD (f .words) o 0 → Rises (l₀ .list) (l₀ .len) → Along f node l₀ l₀ e
-  along-start {l₀} {e} is q s =
-      let k : e ≡ last at node (entriesOf (f .nodes)) =
-      q ∙ ap (λ (k : ℕ). getD (f .words) k 0) is ∙ ch .chained .heads node own in
+  pub along-start : {l₀ : Front} {e heads o : ℕ} → heads ≡ headsAt (f .n) → o ≡ node → e ≡ getD (f .words) (heads + o) 0
+      → Rises (l₀ .list) (l₀ .len) → Along f node l₀ l₀ e
+  along-start {l₀} {e} {heads} {o} v is q s =
+      let here : heads + o ≡ headsAt (f .n) + node = omega arith in
+      let k : e ≡ last at node (entriesOf (f .nodes)) = q ∙ ap (λ (k : ℕ). getD (f .words) k 0) here ∙ ch .chained .heads node own in
       let le = last-most at node (entriesOf (f .nodes)) in
       record {
         within = omega arith;

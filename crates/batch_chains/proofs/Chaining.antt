@@ -11,7 +11,7 @@ use lib.Dec.{eqb, ltb}
 use lib.ListN.{length, getD, drop, set, length-set, drop-of-length-le}
 use lib.Seq.{getD-set-same, getD-set-other, drop-cons}
 use Rattle.laws.specs.Words.{Below}
-use Rattle.scratch.specs.Layout.{linksAt, linksEnd, freshAt}
+use Rattle.scratch.specs.Layout.{headsAt, linksAt, linksEnd, freshAt}
 use Rattle.given.specs.Fresh.{entry}
 use Rattle.batch_chains.specs.Last.{last, last-none, last-hit, last-miss, last-same, seat, seat-none, seat-hit, seat-miss}
 use Rattle.batch_chains.specs.Says.{Laid, OneLinked, Kept, Linked, Seated}
@@ -25,9 +25,9 @@ differ a b = go (eqb a b) refl
 
 -- entry e goes to the front of the chain of t
 abbrev fronted : ℕ → ℕ → ℕ → List ℕ → List ℕ
-fronted n e t w = set (set w (linksAt n + e) (getD w t 0)) t (e + 1)
+fronted n e t w = set (set w (linksAt n + e) (getD w (headsAt n + t) 0)) (headsAt n + t) (e + 1)
 
--- what is read and written, where `f` and `l` are the offsets that the code asked for
+-- what is read and written, where `f`, `l` and `h` are the offsets that the code asked for
 module _ (n e : ℕ) (w : List ℕ) {f t : ℕ} (q : f ≡ freshAt n) (is : t ≡ getD w (f + e) 0) where
   target : t ≡ entry n w e
   target = is ∙ ap (λ (k : ℕ). getD w (k + e) 0) q
@@ -35,31 +35,34 @@ module _ (n e : ℕ) (w : List ℕ) {f t : ℕ} (q : f ≡ freshAt n) (is : t �
   pub one-past : n ≤ t → OneLinked n e w w
   one-past h = let r = target in record { past = λ g. refl; linked = λ g. absurd (omega arith) }
 
-  pub one-linked : {l : ℕ} → l ≡ linksAt n → t < n → OneLinked n e w (set (set w (l + e) (getD w t 0)) t (e + 1))
-  one-linked v h =
+  pub one-linked : {l h : ℕ} → l ≡ linksAt n → h ≡ headsAt n → t < n → OneLinked n e w (set (set w (l + e) (getD w (h + t) 0)) (h + t) (e + 1))
+  one-linked {l} {h} v u low =
       let r = target in
       record {
         past = λ g. absurd (omega arith);
-        linked = λ g. ap (λ (k : ℕ). set (set w (k + e) (getD w t 0)) t (e + 1)) v ∙ ap (λ (k : ℕ). fronted n e k w) r;
+        linked = λ g.
+            ap (λ (k : ℕ). set (set w (k + e) (getD w (h + t) 0)) (h + t) (e + 1)) v
+            ∙ ap (λ (k : ℕ). set (set w (linksAt n + e) (getD w (k + t) 0)) (k + t) (e + 1)) u
+            ∙ ap (λ (k : ℕ). fronted n e k w) r;
       }
 
 -- the first e of m entries are linked; entries are read off the words as they were
 pub record Linking (n m : ℕ) (w₀ w : List ℕ) (e : ℕ) : Type 0 where
   pub most : e ≤ m
   pub size : length w ≡ length w₀
-  pub heads : (i : ℕ) → i < n → getD w i 0 ≡ last (entry n w₀) i e
+  pub heads : (i : ℕ) → i < n → getD w (headsAt n + i) 0 ≡ last (entry n w₀) i e
   pub nexts : (a : ℕ) → a < e → entry n w₀ a < n → getD w (linksAt n + a) 0 ≡ last (entry n w₀) (entry n w₀ a) a
   pub kept : Kept n e w₀ w
 
 module _ {n m : ℕ} {w₀ : List ℕ} (laid : Laid n m (length w₀)) where
-  pub linking-start : ((i : ℕ) → i < n → getD w₀ i 0 ≡ 0) → Linking n m w₀ w₀ 0
+  pub linking-start : ((i : ℕ) → i < n → getD w₀ (headsAt n + i) 0 ≡ 0) → Linking n m w₀ w₀ 0
   linking-start z =
       record {
         most = omega arith;
         size = refl;
         heads = λ i h. z i h ∙ sym (last-none (entry n w₀) i);
         nexts = λ a h. absurd (omega arith);
-        kept = record { between = λ k h g. refl; above = λ k h. refl };
+        kept = record { below = λ k h. refl; between = λ k h g. refl; above = λ k h. refl };
       }
 
   module _ {w : List ℕ} {e : ℕ} (s : Linking n m w₀ w e) (go-on : e < m) where
@@ -73,7 +76,7 @@ module _ {n m : ℕ} {w₀ : List ℕ} (laid : Laid n m (length w₀)) where
           size = s .size;
           heads = λ i g. s .heads i g ∙ sym (last-miss (entry n w₀) i e (λ q. omega arith));
           nexts = λ a g t. nx a t (differ a e) g;
-          kept = record { between = s .kept .between; above = λ k g. s .kept .above k (omega arith) };
+          kept = record { below = s .kept .below; between = s .kept .between; above = λ k g. s .kept .above k (omega arith) };
         }
       where
         nx : (a : ℕ) → entry n w₀ a < n → (a ≡ e) ⊎ (a ≡ e → ⊥) → a < suc e → getD w (linksAt n + a) 0 ≡ last (entry n w₀) (entry n w₀ a) a
@@ -81,33 +84,39 @@ module _ {n m : ℕ} {w₀ : List ℕ} (laid : Laid n m (length w₀)) where
         nx a t (inr q) g = s .nexts a (omega arith) t
 
     module _ (t : ℕ) (at : entry n w₀ e ≡ t) (h : t < n) where
+      abbrev head : ℕ
+      head = headsAt n + t
+
       abbrev linked : List ℕ
-      linked = set w (linksAt n + e) (getD w t 0)
+      linked = set w (linksAt n + e) (getD w head 0)
 
       abbrev new : List ℕ
       new = fronted n e t w
 
       size-linked : length linked ≡ length w₀
-      size-linked = length-set w (linksAt n + e) (getD w t 0) ∙ s .size
+      size-linked = length-set w (linksAt n + e) (getD w head 0) ∙ s .size
 
-      elsewhere : (k : ℕ) → (k ≡ t → ⊥) → (k ≡ linksAt n + e → ⊥) → getD new k 0 ≡ getD w k 0
-      elsewhere k p q = getD-set-other linked t k (e + 1) 0 p ∙ getD-set-other w (linksAt n + e) k (getD w t 0) 0 q
+      elsewhere : (k : ℕ) → (k ≡ head → ⊥) → (k ≡ linksAt n + e → ⊥) → getD new k 0 ≡ getD w k 0
+      elsewhere k p q = getD-set-other linked head k (e + 1) 0 p ∙ getD-set-other w (linksAt n + e) k (getD w head 0) 0 q
 
-      here-head : getD new t 0 ≡ e + 1
-      here-head = let l = laid .high in let z = size-linked in getD-set-same linked t (e + 1) 0 (omega arith)
+      here-head : getD new head 0 ≡ e + 1
+      here-head = let l = laid .high in let z = size-linked in getD-set-same linked head (e + 1) 0 (omega arith)
 
-      here-link : getD new (linksAt n + e) 0 ≡ getD w t 0
+      here-link : getD new (linksAt n + e) 0 ≡ getD w head 0
       here-link =
           let b = laid .entries in
           let l = laid .high in
           let z = s .size in
-          getD-set-other linked t (linksAt n + e) (e + 1) 0 (λ q. omega arith) ∙ getD-set-same w (linksAt n + e) (getD w t 0) 0 (omega arith)
+          getD-set-other linked head (linksAt n + e) (e + 1) 0 (λ q. omega arith) ∙ getD-set-same w (linksAt n + e) (getD w head 0) 0 (omega arith)
 
-      hd : (i : ℕ) → i < n → (i ≡ t) ⊎ (i ≡ t → ⊥) → getD new i 0 ≡ last (entry n w₀) i (suc e)
+      hd : (i : ℕ) → i < n → (i ≡ t) ⊎ (i ≡ t → ⊥) → getD new (headsAt n + i) 0 ≡ last (entry n w₀) i (suc e)
       hd i g (inl q) =
           let one : e + 1 ≡ suc e = omega arith in
-          ap (λ (k : ℕ). getD new k 0) q ∙ here-head ∙ one ∙ sym (last-hit (entry n w₀) i e (at ∙ sym q))
-      hd i g (inr q) = elsewhere i q (λ p. omega arith) ∙ s .heads i g ∙ sym (last-miss (entry n w₀) i e (λ p. q (sym p ∙ at)))
+          ap (λ (k : ℕ). getD new (headsAt n + k) 0) q ∙ here-head ∙ one ∙ sym (last-hit (entry n w₀) i e (at ∙ sym q))
+      hd i g (inr q) =
+          elsewhere (headsAt n + i) (λ p. q (omega arith)) (λ p. omega arith)
+          ∙ s .heads i g
+          ∙ sym (last-miss (entry n w₀) i e (λ p. q (sym p ∙ at)))
 
       nx : (a : ℕ) → a < suc e → entry n w₀ a < n → (a ≡ e) ⊎ (a ≡ e → ⊥) → getD new (linksAt n + a) 0 ≡ last (entry n w₀) (entry n w₀ a) a
       nx a g u (inl q) =
@@ -122,10 +131,11 @@ module _ {n m : ℕ} {w₀ : List ℕ} (laid : Laid n m (length w₀)) where
       stored =
           record {
             most = omega arith;
-            size = length-set linked t (e + 1) ∙ size-linked;
+            size = length-set linked head (e + 1) ∙ size-linked;
             heads = λ i g. hd i g (differ i t);
             nexts = λ a g u. nx a g u (differ a e);
             kept = record {
+              below = λ k g. elsewhere k (λ p. omega arith) (λ p. omega arith) ∙ s .kept .below k g;
               between = λ k g v. elsewhere k (λ p. omega arith) (λ p. omega arith) ∙ s .kept .between k g v;
               above = λ k g. elsewhere k (λ p. omega arith) (λ p. omega arith) ∙ s .kept .above k (omega arith);
             };
@@ -157,7 +167,7 @@ module _ {n m : ℕ} {w₀ : List ℕ} (laid : Laid n m (length w₀)) where
               ∙ last-same (entry n w₀) (entry n w) (entry n w₀ a) a back
               ∙ ap (λ (k : ℕ). last (entry n w) k a) (back a);
         };
-        kept = record { between = s .kept .between; above = λ k g. s .kept .above k (omega arith) };
+        kept = record { below = s .kept .below; between = s .kept .between; above = λ k g. s .kept .above k (omega arith) };
       }
 
   pub requires-one : {w : List ℕ} {e : ℕ} → Linking n m w₀ w e → e < m → (n ≤ 65536) × (linksAt n + e < linksEnd n) × (freshAt n + e < length w)

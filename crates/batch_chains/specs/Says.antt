@@ -1,10 +1,10 @@
--- Chains through the lent words, where scratch lays them: the heads of the n ids from 0 on, then the links, one for each entry of the fresh rows.
+-- Chains through the lent words, where scratch lays them: the heads of the n ids, and the links, one for each entry of the fresh rows.
 use Prim.Native.Nat.{ℕ, _+_, _/_, _≤_, _<_}
 use mathlib.Core.Path.{_≡_}
 use mathlib.Core.List.{List, map}
 use lib.ListN.{length, getD, take, set}
 use Rattle.laws.specs.Listed.{freshWidth}
-use Rattle.scratch.specs.Layout.{linksAt, linksEnd, freshAt}
+use Rattle.scratch.specs.Layout.{headsAt, seatsAt, linksAt, linksEnd, freshAt}
 use Rattle.given.specs.Fresh.{Merging, entry, entriesOf}
 use Rattle.batch_ids.specs.Grown.{grown, wanted}
 use Rattle.batch_ids.specs.Says.{Holds}
@@ -18,16 +18,17 @@ pub record Laid (n m size : ℕ) : Type 0 where
 
 pub record OneLinked (n e : ℕ) (w₀ w : List ℕ) : Type 0 where
   pub past : n ≤ entry n w₀ e → w ≡ w₀
-  pub linked : entry n w₀ e < n → w ≡ set (set w₀ (linksAt n + e) (getD w₀ (entry n w₀ e) 0)) (entry n w₀ e) (e + 1)
+  pub linked : entry n w₀ e < n → w ≡ set (set w₀ (linksAt n + e) (getD w₀ (headsAt n + entry n w₀ e) 0)) (headsAt n + entry n w₀ e) (e + 1)
 
 -- the chains of the first m entries
 pub record Chained (n m : ℕ) (w : List ℕ) : Type 0 where
-  pub heads : (i : ℕ) → i < n → getD w i 0 ≡ last (entry n w) i m
+  pub heads : (i : ℕ) → i < n → getD w (headsAt n + i) 0 ≡ last (entry n w) i m
   pub nexts : (e : ℕ) → e < m → entry n w e < n → getD w (linksAt n + e) 0 ≡ last (entry n w) (entry n w e) e
 
 -- only heads and links differ
 pub record Kept (n m : ℕ) (w₀ w : List ℕ) : Type 0 where
-  pub between : (k : ℕ) → n ≤ k → k < linksAt n → getD w k 0 ≡ getD w₀ k 0
+  pub below : (k : ℕ) → k < headsAt n → getD w k 0 ≡ getD w₀ k 0
+  pub between : (k : ℕ) → seatsAt n ≤ k → k < linksAt n → getD w k 0 ≡ getD w₀ k 0
   pub above : (k : ℕ) → linksAt n + m ≤ k → getD w k 0 ≡ getD w₀ k 0
 
 pub record Linked (n m : ℕ) (w₀ w : List ℕ) : Type 0 where

@@ -4,7 +4,7 @@ ghost use mathlib.Core.Path.{_≡_};
 ghost use Prim.Native.Nat.{ℕ, _+_, _-_, _≤_, _<_};
 ghost use lib.ListN.{length, getD};
 ghost use Rattle.laws.specs.Words.{Below};
-ghost use Rattle.scratch.specs.Layout.{linksAt, linksEnd, freshAt};
+ghost use Rattle.scratch.specs.Layout.{headsAt, linksAt, linksEnd, freshAt};
 ghost use Rattle.given.specs.Fresh.{merging};
 ghost use Rattle.batch_ids.specs.Says.{Rises};
 ghost use Rattle.batch_chains.specs.Says.{Laid, OneLinked, Linked, Chains, NamingAdded, Seated};
@@ -20,14 +20,15 @@ fn link_entry(words: &mut [u32], n: usize, e: usize)
         return;
     }
     let to = scratch::links_at(n) + e;
-    words[to] = words[target];
-    words[target] = (e + 1) as u32;
+    let head = scratch::heads_at(n) + target;
+    words[to] = words[head];
+    words[head] = (e + 1) as u32;
 }
 
 // The chains of all m entries, from heads that are all 0.
 pub fn link_entries(words: &mut [u32], n: usize, m: usize)
     requires { ⌜ Laid n m (length (now words)) ⌝ }
-    requires { ⌜ ((i : ℕ) → i < n → getD (now words) i 0 ≡ 0) ⌝ }
+    requires { ⌜ ((i : ℕ) → i < n → getD (now words) (headsAt n + i) 0 ≡ 0) ⌝ }
     ensures { λ _. ⌜ Linked n m (now (words .entry)) (now (words .exit)) ⌝ }
 {
     let mut e = 0;
@@ -52,8 +53,9 @@ pub fn add_naming(
     ensures { λ r. ⌜ NamingAdded (merging n (now (nodes .entry)) (now (words .entry))) node len (now (list .entry)) (now (list .exit)) r ⌝ }
 {
     let own = table::index_of(node);
+    let head = scratch::heads_at(n) + own;
     let links = scratch::links_at(n);
-    let mut e = table::index_of(words[own]);
+    let mut e = table::index_of(words[head]);
     let mut count = len;
     while 0 < e {
         let a = e - 1;

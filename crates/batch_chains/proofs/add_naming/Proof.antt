@@ -7,17 +7,23 @@ use Rattle.batch_chains.proofs.add_naming.Statement.{statement}
 use Rattle.batch_chains.proofs.add_naming.Tie as tie
 
 abbrev Inv-loop : tie.InvT-loop
-Inv-loop words n nodes node list₀ len own links e₀ count₀ list e count = Along (merging n nodes words) node (front list₀ len) (front list count) e
+Inv-loop words n nodes node list₀ len own head links e₀ count₀ list e count = Along (merging n nodes words) node (front list₀ len) (front list count) e
 
 abbrev μ-loop : tie.MeasureT-loop
-μ-loop words n nodes node list₀ len own links e₀ count₀ list e count = e
+μ-loop words n nodes node list₀ len own head links e₀ count₀ list e count = e
 
 -- from a turn of the loop back to the call
 abbrev called : (tie.At-loop Inv-loop μ-loop) → (tie.Start Inv-loop μ-loop)
-called c = c .before .before .before .before .before .before .before .before
+called c = c .before .before .before .before .before .before .before .before .before
 
 index-of-requires : tie.Need-index-of-requires Inv-loop μ-loop
 index-of-requires c κs = search needs
+
+heads-at-requires : tie.Need-heads-at-requires Inv-loop μ-loop
+heads-at-requires c κs = search needs
+
+add-head : tie.Need-add-head Inv-loop μ-loop
+add-head c = search needs
 
 links-at-requires : tie.Need-links-at-requires Inv-loop μ-loop
 links-at-requires c κs = search needs
@@ -33,8 +39,9 @@ index-of-requires-2 c κs = search needs
 
 loop-holds : tie.Need-loop-holds Inv-loop μ-loop
 loop-holds c =
-    let s = c .before .before .before .before .before .before .before in
-    along-start (s .pre .0 .0) (s .pre .1 .0) (c .before .before .before .index-of .ensures) (c .index-of2 .ensures) (s .pre .1 .1)
+    let headed = c .before .before .before in
+    let s = headed .before .before .before .before .before in
+    along-start (s .pre .0 .0) (s .pre .1 .0) (headed .heads-at .ensures) (headed .before .index-of .ensures) (c .index-of2 .ensures) (s .pre .1 .1)
 
 sub-a : tie.Need-sub-a Inv-loop μ-loop
 sub-a c = search needs
@@ -89,6 +96,8 @@ add-naming-spec =
     Inv-loop
     μ-loop
     index-of-requires
+    heads-at-requires
+    add-head
     links-at-requires
     mul-index-of
     shared-slice-read-index-of

@@ -30,6 +30,12 @@ links-at-requires c κs = search needs
 add-to : tie.Need-add-to
 add-to c = search needs
 
+heads-at-requires : tie.Need-heads-at-requires
+heads-at-requires c κs = search needs
+
+add-head : tie.Need-add-head
+add-head c = search needs
+
 mul-words : tie.Need-mul-words
 mul-words c = search needs
 
@@ -59,8 +65,11 @@ same-length c = search needs
 
 returns-2 : tie.Need-returns-2
 returns-2 c =
-    let target = c .before .before .before in
-    one-linked _ _ _ (target .before .before .fresh-at .ensures) (target .index-of .ensures) (c .before .links-at .ensures) (omega arith)
+    let headed = c .before in
+    let linked = headed .before in
+    let target = linked .before .before in
+    one-linked _ _ _ (target .before .before .fresh-at .ensures) (target .index-of .ensures)
+    (linked .links-at .ensures) (headed .heads-at .ensures) (omega arith)
 
 pub link-entry-spec : {M : Type 1} → statement M
 link-entry-spec =
@@ -74,6 +83,8 @@ link-entry-spec =
     returns
     links-at-requires
     add-to
+    heads-at-requires
+    add-head
     mul-words
     slice-read-words
     mul-words-2
