@@ -40,9 +40,12 @@ rises-none : (l : List ℕ) → Rises l 0
 rises-none l = record { fits = omega arith; asc = none }
 
 module _ {f : Merging} {node width : ℕ} (r : Ready f) (h : node < f .n) (thin : width ≤ widest) where
-  module _ (own s : ℕ) (o : own ≡ node) (e : s ≡ getD (f .words) (seatsAt (f .n) + own) 0) where
+  -- `seats` is where the code found that the seats begin
+  module _ {seats : ℕ} (own s : ℕ) (v : seats ≡ seatsAt (f .n)) (o : own ≡ node) (e : s ≡ getD (f .words) (seats + own) 0) where
     its-seat : s ≡ seat (f .nodes) node 0
-    its-seat = e ∙ ap (λ (k : ℕ). getD (f .words) (seatsAt (f .n) + k) 0) o ∙ r .seats node h
+    its-seat =
+        let here : seats + own ≡ seatsAt (f .n) + node = omega arith in
+        e ∙ ap (λ (k : ℕ). getD (f .words) k 0) here ∙ r .seats node h
 
     pub base-asks : (size : ℕ) → node * width + width ≤ size
         → ((f .n ≤ 65536) × (own < f .n) × (width ≤ widest) × (s ≤ 256))

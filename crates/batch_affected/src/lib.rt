@@ -52,7 +52,7 @@ pub fn gather_node<'a>(
     ensures { λ r. ⌜ Gathered (merging n (now (nodes .entry)) (now (words .entry))) (now (wide .entry)) slack node (now (list .exit)) r ⌝ }
 {
     let own = table::index_of(node);
-    let at = n + own;
+    let at = scratch::seats_at(n) + own;
     let seat = table::index_of(words[at]);
     let row = base(words, wide, n, seat, own, slack);
     let count = batch_ids::add_row(row, node, list, 0);
