@@ -8,7 +8,7 @@ use lib.Ieee.{Float}
 use Rattle.definition.specs.Batch.{merged}
 use Rattle.laws.specs.Listed.{listedAt}
 use Rattle.laws.specs.Parts.{part, put, part-length, put-within, within-wider}
-use Rattle.scratch.specs.Layout.{linksEnd, freshAt, mostFactors}
+use Rattle.scratch.specs.Layout.{headsAt, linksEnd, freshAt, mostFactors}
 use Rattle.given.specs.Given.{Given, setting, Limits, Wide}
 use Rattle.given.specs.Held.{Held, held}
 use Rattle.given.specs.Fresh.{merging, listedIn}
@@ -23,7 +23,7 @@ module _ {g : Given} {nodes : List ℕ} {h : Held} {words : List ℕ} (r : Merge
       → length factors ≡ length (part 0 mostFactors (h .lent .floats)) → Merged g nodes h (held wide words (put 0 mostFactors (h .lent .floats) factors))
   all-done factors is same =
       let fresh : drop (freshAt (g .n)) words ≡ drop (freshAt (g .n)) (h .lent .words) =
-      within-wider 0 (linksEnd (g .n)) (h .lent .words) words (l .within) 0 (freshAt (g .n)) (omega arith) (omega arith) .above in
+      within-wider (headsAt (g .n)) (linksEnd (g .n)) (h .lent .words) words (l .within) 0 (freshAt (g .n)) (omega arith) (omega arith) .above in
       record {
         wide-is = is ∙ ap (λ (t : List ℕ). merged (setting g) (h .wide) (listedAt nodes t)) fresh;
         words-within = l .within;

@@ -7,7 +7,7 @@ use Rattle.definition.specs.Tables.{row}
 use Rattle.definition.specs.Batch.{mergedIds, fitted, merged}
 use Rattle.laws.specs.Parts.{Within}
 use Rattle.laws.specs.Words.{Below, Searchable}
-use Rattle.scratch.specs.Layout.{linksEnd, freshEnd, mostFactors}
+use Rattle.scratch.specs.Layout.{headsAt, linksEnd, freshEnd, mostFactors}
 use Rattle.given.specs.Given.{Given, setting, Limits, Wide}
 use Rattle.given.specs.Held.{Held}
 use Rattle.given.specs.Fresh.{Merging, merging, entriesOf, listedIn}
@@ -32,7 +32,7 @@ pub record Gatherable (f : Merging) : Type 0 where
 
 pub record AllLinked (n : ℕ) (nodes w₀ w : List ℕ) : Type 0 where
   pub gatherable : Gatherable (merging n nodes w)
-  pub within : Within 0 (linksEnd n) w₀ w
+  pub within : Within (headsAt n) (linksEnd n) w₀ w
 
 -- the ids of row i after the merge
 unfoldable pub mergedTo : Given → Merging → List ℕ → ℕ → List ℕ
@@ -57,8 +57,8 @@ pub record MergeReady (g : Given) (nodes : List ℕ) (h : Held) : Type 0 where
   pub table : Wide g (h .wide)
   pub room : mostFactors ≤ length (h .lent .floats)
 
--- the wide table is the definition's; fresh rows and all else outside the merge's own room stay
+-- the wide table is the definition's; marks, fresh rows and all else outside the merge's own room stay
 pub record Merged (g : Given) (nodes : List ℕ) (before after : Held) : Type 0 where
   pub wide-is : after .wide ≡ merged (setting g) (before .wide) (listedIn (merging (g .n) nodes (before .lent .words)))
-  pub words-within : Within 0 (linksEnd (g .n)) (before .lent .words) (after .lent .words)
+  pub words-within : Within (headsAt (g .n)) (linksEnd (g .n)) (before .lent .words) (after .lent .words)
   pub floats-within : Within 0 mostFactors (before .lent .floats) (after .lent .floats)

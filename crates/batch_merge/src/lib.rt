@@ -10,16 +10,18 @@ ghost use Rattle.given.specs.Fresh.{merging, listedIn};
 ghost use Rattle.batch_merge.specs.Says.{Unlinked, AllLinked, Gatherable, RowReady, RowMerged, MergeReady, Merged};
 use given::Ground;
 
-// Heads and seats begin at 0; then the chains through the fresh rows, and the seats of the listed nodes.
+// Heads and seats become 0, the marks before them stay; then the chains through the fresh rows, and the seats of the listed nodes.
 fn link(words: &mut [u32], n: usize, nodes: &[u32])
     requires { ⌜ Unlinked (merging n (now nodes) (now words)) ⌝ }
     ensures { λ _. ⌜ AllLinked n (now (nodes .entry)) (now (words .entry)) (now (words .exit)) ⌝ }
 {
+    let heads = scratch::heads_at(n);
+    let seats = scratch::seats_at(n);
     let links = scratch::links_at(n);
     let entries = nodes.len() * scratch::FRESH_WIDTH;
-    scratch::clear_words(&mut words[0..links]);
+    scratch::clear_words(&mut words[heads..links]);
     batch_chains::link_entries(words, n, entries);
-    batch_chains::seat_nodes(nodes, &mut words[n..links]);
+    batch_chains::seat_nodes(nodes, &mut words[seats..links]);
 }
 
 // Whether node i is listed, or an id of a fresh row.
@@ -28,11 +30,12 @@ fn is_affected(words: &[u32], n: usize, nodes: &[u32], i: usize) -> bool
     requires { ⌜ Gatherable (merging n (now nodes) (now words)) ⌝ }
     ensures { λ r. ⌜ r ≡ affected (listedIn (merging n (now (nodes .entry)) (now (words .entry)))) i ⌝ }
 {
-    let at = n + i;
-    if words[at] != 0 {
+    let seat = scratch::seats_at(n) + i;
+    if words[seat] != 0 {
         return true;
     }
-    words[i] != 0
+    let head = scratch::heads_at(n) + i;
+    words[head] != 0
 }
 
 // The row of one affected node: its merged ids, pruned if they are more than the slack.

@@ -6,13 +6,22 @@ use Rattle.batch_merge.proofs.link.Tie as tie
 
 -- from the cleared words back to the call
 abbrev called : tie.After-clear-words → tie.Start
-called c = c .before .before .before .before .before
+called c = c .before .before .before .before .before .before .before
+
+heads-at-requires : tie.Need-heads-at-requires
+heads-at-requires c κs = search needs
+
+seats-at-requires : tie.Need-seats-at-requires
+seats-at-requires c κs = search needs
 
 links-at-requires : tie.Need-links-at-requires
 links-at-requires c κs = search needs
 
 mul-entries : tie.Need-mul-entries
 mul-entries c = search needs
+
+mul-clear-words : tie.Need-mul-clear-words
+mul-clear-words c = search needs
 
 sub-clear-words : tie.Need-sub-clear-words
 sub-clear-words c = search needs
@@ -29,7 +38,9 @@ clear-words-requires c κs = search needs
 link-entries-requires : tie.Need-link-entries-requires
 link-entries-requires c κs =
     let cleared = c .before .before .before in
-    link-asks (called cleared .pre) _ (cleared .before .before .links-at .ensures) _ (cleared .clear-words .ensures)
+    let links = cleared .before .before in
+    let seats = links .before in
+    link-asks (called cleared .pre) (seats .before .heads-at .ensures) (seats .seats-at .ensures) (links .links-at .ensures) _ (cleared .clear-words .ensures)
 
 mul-seat-nodes : tie.Need-mul-seat-nodes
 mul-seat-nodes c = search needs
@@ -47,7 +58,10 @@ seat-nodes-requires : tie.Need-seat-nodes-requires
 seat-nodes-requires c κs =
     let linked = c .before .before .before .link-entries in
     let cleared = c .before .before .before .before .before .before .before in
-    seat-asks (called cleared .pre) _ (cleared .before .before .links-at .ensures) _ (cleared .clear-words .ensures) _ (linked .kept .0) (linked .ensures)
+    let links = cleared .before .before in
+    let seats = links .before in
+    seat-asks (called cleared .pre) (seats .before .heads-at .ensures) (seats .seats-at .ensures) (links .links-at .ensures) _ (cleared .clear-words .ensures)
+    _ (linked .kept .0) (linked .ensures)
 
 same-length : tie.Need-same-length
 same-length c = search needs
@@ -58,15 +72,20 @@ returns c =
     let chains = c .before .before .before .before .before .before in
     let cleared = chains .before .before .before .before in
     let linked = chains .link-entries in
-    all-linked (called cleared .pre) _ (cleared .before .before .links-at .ensures) _ (cleared .clear-words .ensures) _ (linked .kept .0) (linked .ensures)
-    _ (seated .kept .1 .0) (seated .ensures)
+    let links = cleared .before .before in
+    let seats = links .before in
+    all-linked (called cleared .pre) (seats .before .heads-at .ensures) (seats .seats-at .ensures) (links .links-at .ensures) _ (cleared .clear-words .ensures)
+    _ (linked .kept .0) (linked .ensures) _ (seated .kept .1 .0) (seated .ensures)
 
 pub link-spec : {M : Type 1} → statement M
 link-spec =
     tie.close
     (tie.spec
+    heads-at-requires
+    seats-at-requires
     links-at-requires
     mul-entries
+    mul-clear-words
     sub-clear-words
     part-clear-words-start
     part-clear-words-end
