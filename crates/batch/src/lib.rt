@@ -8,30 +8,31 @@ use definition::Answer;
 use definition::Params;
 use given::Ground;
 
-// A batch that no check refuses: the fresh rows of all listed nodes from the rows as they are, and only then the merge.
-// The marks of the walks and the stamps of the pools begin at 0.
+// A batch that no check refuses: the fresh rows of all listed nodes from the rows as they are, and only then the merge. The marks of the walks are as the batch
+// before left them, and the epochs go on: it returns the last. The stamps of the pools, which lie where the merge has its links, begin at 0.
 pub fn run_batch(
     g: Ground,
     vectors: &[u8],
+    epoch: u32,
     start: u32,
     nodes: &[u32],
     seeds: &[u32],
     wide: &mut [u32],
     words: &mut [u32],
     floats: &mut [f32],
-)
-    requires { ⌜ BatchReady (given g (now vectors)) (listing start (now nodes) (now seeds)) (held (now wide) (now words) (now floats)) ⌝ }
-    ensures { λ _. ⌜ BatchRun (given g (now (vectors .entry))) (listing start (now (nodes .entry)) (now (seeds .entry)))
+) -> u32
+    requires { ⌜ BatchReady (given g (now vectors)) (listing start (now nodes) (now seeds)) epoch (held (now wide) (now words) (now floats)) ⌝ }
+    ensures { λ r. ⌜ BatchRun (given g (now (vectors .entry))) (listing start (now (nodes .entry)) (now (seeds .entry))) epoch r
         (held (now (wide .entry)) (now (words .entry)) (now (floats .entry)))
         (held (now (wide .exit)) (now (words .exit)) (now (floats .exit))) ⌝ }
 {
     let n = g.n;
     let a = scratch::stamps_at(n);
     let e = scratch::pool_dists_at(n);
-    scratch::clear_words(&mut words[0..n]);
     scratch::clear_words(&mut words[a..e]);
-    batch_fresh::fresh_rows(g, vectors, start, nodes, seeds, wide, words, floats);
+    let last = batch_fresh::fresh_rows(g, vectors, epoch, start, nodes, seeds, wide, words, floats);
     batch_merge::merge(g, vectors, nodes, wide, words, floats);
+    last
 }
 
 // One batch of the wide table, or the number of the refusal.
@@ -84,7 +85,8 @@ pub fn batch(
         slack,
         params,
     };
-    run_batch(g, vectors, start, nodes, seeds, wide, words, floats);
+    let epoch = marks::first_epoch(words, n);
+    run_batch(g, vectors, epoch, start, nodes, seeds, wide, words, floats);
     scratch::clear_room(n, words, floats);
     answers::done()
 }

@@ -2,7 +2,7 @@
 use mathlib.Core.Path.{_≡_, refl, sym, _∙_}
 use borrow.Author.Needs.{needs}
 use Rattle.definition.specs.Refusals.{BatchCall, batchNumber}
-use Rattle.batch.specs.Batched.{batch-degree, batch-ready, batch-room, batch-done, batch-refused}
+use Rattle.batch.specs.Batched.{batch-degree, batch-marks, batch-ready, batch-room, batch-done, batch-refused}
 use Rattle.batch.proofs.batch.Statement.{statement}
 use Rattle.batch.proofs.batch.Tie as tie
 
@@ -48,16 +48,25 @@ returns c = batch-refused (numbered (c .before .before)) (c .before .if1 .taken)
 slack-requires : tie.Need-slack-requires
 slack-requires c κs = batch-degree (call (called (c .before))) (accepted c)
 
+first-epoch-requires : tie.Need-first-epoch-requires
+first-epoch-requires c κs = let taken = c .before .before in batch-marks (call (called (taken .before))) (accepted taken)
+
+-- from the marks cleared back to where no check refused
+abbrev passed : tie.After-first-epoch → tie.Else1
+passed c = c .before .before .before
+
 run-batch-requires : tie.Need-run-batch-requires
 run-batch-requires c κs =
-    let taken = c .before .before .before .before in
-    batch-ready (call (called (taken .before))) (accepted taken) (c .before .before .before .slack .ensures)
+    let first = c .before .before .before .before .before in
+    let taken = passed first in
+    batch-ready (call (called (taken .before))) (accepted taken) (first .before .before .slack .ensures) (first .first-epoch .ensures)
 
 clear-room-requires : tie.Need-clear-room-requires
 clear-room-requires c κs =
     let run = c .before .before .before .before .before .before .before .before in
-    let taken = run .before .before .before .before .before in
-    batch-room (call (called (taken .before))) (accepted taken) (run .run-batch .ensures)
+    let first = run .before .before .before .before .before .before in
+    let taken = passed first in
+    batch-room (call (called (taken .before))) (accepted taken) (first .before .before .slack .ensures) (first .first-epoch .ensures) (run .run-batch .ensures)
 
 done-requires : tie.Need-done-requires
 done-requires c κs = search needs
@@ -75,8 +84,10 @@ returns-2 : tie.Need-returns-2
 returns-2 c =
     let cleared = c .before .before .before .before .before in
     let run = cleared .before .before .before .before .before .before .before .before .before in
-    let taken = run .before .before .before .before .before in
-    batch-done (call (called (taken .before))) (accepted taken) (run .run-batch .ensures) (c .done .ensures) (cleared .clear-room .ensures)
+    let first = run .before .before .before .before .before .before in
+    let taken = passed first in
+    batch-done (call (called (taken .before))) (accepted taken) (first .before .before .slack .ensures) (first .first-epoch .ensures) (run .run-batch .ensures)
+    (c .done .ensures) (cleared .clear-room .ensures)
 
 pub batch-spec : {M : Type 1} → statement M
 batch-spec =
@@ -87,6 +98,7 @@ batch-spec =
     same-length
     returns
     slack-requires
+    first-epoch-requires
     run-batch-requires
     clear-room-requires
     done-requires

@@ -1,10 +1,10 @@
--- `run_batch` meets its contract: marks and stamps cleared, fresh rows, merge.
+-- `run_batch` meets its contract: stamps cleared, fresh rows, merge.
 use borrow.Author.Needs.{needs}
 use Rattle.batch.proofs.Running.{fresh-asks, merge-asks, batch-run}
 use Rattle.batch.proofs.run_batch.Statement.{statement}
 use Rattle.batch.proofs.run_batch.Tie as tie
 
--- from the marks cleared back to the call
+-- from the stamps cleared back to the call
 abbrev called : tie.After-clear-words → tie.Start
 called c = c .before .before .before .before .before .before .before .before .before .before
 
@@ -13,6 +13,9 @@ stamps-at-requires c κs = search needs
 
 pool-dists-at-requires : tie.Need-pool-dists-at-requires
 pool-dists-at-requires c κs = search needs
+
+mul-clear-words : tie.Need-mul-clear-words
+mul-clear-words c = search needs
 
 sub-clear-words : tie.Need-sub-clear-words
 sub-clear-words c = search needs
@@ -26,35 +29,18 @@ part-clear-words-end c = search needs
 clear-words-requires : tie.Need-clear-words-requires
 clear-words-requires c κs = search needs
 
-mul-clear-words : tie.Need-mul-clear-words
-mul-clear-words c = search needs
-
-sub-clear-words-2 : tie.Need-sub-clear-words-2
-sub-clear-words-2 c = search needs
-
-part-clear-words-start-2 : tie.Need-part-clear-words-start-2
-part-clear-words-start-2 c = search needs
-
-part-clear-words-end-2 : tie.Need-part-clear-words-end-2
-part-clear-words-end-2 c = search needs
-
-clear-words-requires-2 : tie.Need-clear-words-requires-2
-clear-words-requires-2 c κs = search needs
-
 fresh-rows-requires : tie.Need-fresh-rows-requires
 fresh-rows-requires c κs =
-    let stamps = c .before .before .before .before .before .clear-words2 in
-    let marks = c .before .before .before .before .before .before .before .before .before in
-    fresh-asks (called marks .pre) (marks .before .before .before .stamps-at .ensures) (marks .before .before .pool-dists-at .ensures)
-    _ _ (marks .clear-words .ensures) (stamps .ensures)
+    let stamps = c .before .before .before .before .before in
+    fresh-asks (called stamps .pre) (stamps .before .before .before .stamps-at .ensures) (stamps .before .before .pool-dists-at .ensures)
+    _ (stamps .clear-words .ensures)
 
 merge-requires : tie.Need-merge-requires
 merge-requires c κs =
     let rows = c .before .before .before .before .before .before .before in
-    let stamps = rows .before .before .before .before .before .before .clear-words2 in
-    let marks = rows .before .before .before .before .before .before .before .before .before .before in
-    merge-asks (called marks .pre) (marks .before .before .before .stamps-at .ensures) (marks .before .before .pool-dists-at .ensures)
-    _ _ (marks .clear-words .ensures) (stamps .ensures) (rows .fresh-rows .ensures)
+    let stamps = rows .before .before .before .before .before .before in
+    merge-asks (called stamps .pre) (stamps .before .before .before .stamps-at .ensures) (stamps .before .before .pool-dists-at .ensures)
+    _ (stamps .clear-words .ensures) (rows .fresh-rows .ensures .0)
 
 same-length : tie.Need-same-length
 same-length c = search needs
@@ -69,10 +55,10 @@ returns : tie.Need-returns
 returns c =
     let merged = c .before .before .before .before .before .before in
     let rows = merged .before .before .before .before .before .before .before .before in
-    let stamps = rows .before .before .before .before .before .before .clear-words2 in
-    let marks = rows .before .before .before .before .before .before .before .before .before .before in
-    batch-run (called marks .pre) (marks .before .before .before .stamps-at .ensures) (marks .before .before .pool-dists-at .ensures)
-    _ _ (marks .clear-words .ensures) (stamps .ensures) (rows .fresh-rows .ensures) (merged .merge .ensures)
+    let stamps = rows .before .before .before .before .before .before in
+    let made = rows .fresh-rows .ensures in
+    batch-run (called stamps .pre) (stamps .before .before .before .stamps-at .ensures) (stamps .before .before .pool-dists-at .ensures)
+    _ (stamps .clear-words .ensures) (made .0) (made .1 .0) (made .1 .1) (merged .merge .ensures)
 
 pub run-batch-spec : {M : Type 1} → statement M
 run-batch-spec =
@@ -80,15 +66,11 @@ run-batch-spec =
     (tie.spec
     stamps-at-requires
     pool-dists-at-requires
+    mul-clear-words
     sub-clear-words
     part-clear-words-start
     part-clear-words-end
     clear-words-requires
-    mul-clear-words
-    sub-clear-words-2
-    part-clear-words-start-2
-    part-clear-words-end-2
-    clear-words-requires-2
     fresh-rows-requires
     merge-requires
     same-length
