@@ -12,7 +12,7 @@ use Rattle.definition.specs.Build.{open′, close, batches, built}
 use Rattle.definition.specs.Refusals.{BuildCall, buildNumber}
 use Rattle.definition.specs.Outcome.{settingOf, refused, done, BuildOut, buildKept, builtWide, buildDone, buildOut, BuildMeets}
 use Rattle.laws.specs.Parts.{part, put, within-trans}
-use Rattle.accepted.specs.Checks.{count-low}
+use Rattle.accepted.specs.Checks.{count-low, extra-good}
 use Rattle.accepted.specs.Build.{build-accepted}
 use Rattle.theory.specs.Kept.{TableKept}
 use Rattle.theory.specs.Rule.{ruled-kept, kept-ruled}
@@ -73,6 +73,7 @@ module _ (c : BuildCall) (z : buildNumber c ≡ 0) where
             order-in = a .order .below;
             seeds-are = a .seeds .size;
             seeds-in = a .seeds .below;
+            extra-few = extra-good (c .n) (c .params .extra) (a .seeds .limits) .0;
             kept =
                 subst (TableKept (c .n) (slack (c .params .degree))) (sym is-opened)
                 (opened-kept (c .n) (c .params .degree) (c .opening) low (ruled-kept (a .opening)));

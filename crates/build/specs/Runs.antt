@@ -16,16 +16,19 @@ use Rattle.definition.specs.Batch.{Setting, batch}
 use Rattle.definition.specs.Build.{batchSize, batches}
 use Rattle.definition.specs.Outcome.{settingOf}
 use Rattle.laws.specs.Members.{take-mem, drop-mem, mem-at}
-use Rattle.laws.specs.Parts.{part, part-length, within-trans, within-none}
+use Rattle.laws.specs.Parts.{part, part-length, within-wider, within-trans, within-none}
 use Rattle.laws.specs.Words.{Below}
 use Rattle.scratch.specs.Layout.{freshEnd, floatsEnd}
 use Rattle.given.specs.Given.{Given, setting, WalkLimits}
 use Rattle.given.specs.Listing.{Listing, listing}
-use Rattle.given.specs.Held.{Held, Roomy, RoomKept}
+use Rattle.given.specs.Held.{Held, held, Roomy, RoomKept}
 use Rattle.theory.specs.Kept.{TableKept}
 use Rattle.theory.specs.Rule.{kept-searchable}
 use Rattle.theory.specs.build.Runs.{batches-same}
 use Rattle.theory.specs.build.Batches.{batch-kept}
+use Rattle.theory.specs.build.Walks.{batch-walks, epochAfter, epochs-fit}
+use Rattle.marks.specs.Marked.{Marks, FirstEpoch}
+use Rattle.batch_fresh.specs.Made.{walksOf}
 use Rattle.batch.specs.Says.{BatchReady, BatchRun}
 
 -- all ids are entries
@@ -40,6 +43,7 @@ pub record RunsReady (g : Given) (l : Listing) (h : Held) : Type 0 where
   pub order-in : Entries (g .n) (l .nodes)
   pub seeds-are : length (l .seeds) ≡ g .n * g .params .extra
   pub seeds-in : Entries (g .n) (l .seeds)
+  pub extra-few : g .params .extra ≤ 16
   pub kept : TableKept (g .n) (slack (g .params .degree)) (h .wide)
   pub roomy : Roomy (g .n) (h .lent)
 
@@ -92,34 +96,76 @@ runOf g l at end = listing (l .start) (part at end (l .nodes)) (part (at * g .pa
 abbrev batchesOf : Given → ℕ → Listing → List ℕ → List ℕ
 batchesOf g fuel l wide = batches (setting g) (l .start) (g .params .extra) fuel (l .nodes) (l .seeds) wide
 
--- `at` ids of the order are done
-pub record Running (g : Given) (l : Listing) (before after : Held) (at : ℕ) : Type 0 where
+-- `at` ids of the order are done: no mark is past the epoch, to which each of them has added one for itself and one for each of its seeds
+pub record Running (g : Given) (l : Listing) (before after : Held) (epoch at : ℕ) : Type 0 where
   pub most : at ≤ g .n
   pub kept : TableKept (g .n) (slack (g .params .degree)) (after .wide)
   pub same : batchesOf g (g .n) (leftOf g l at) (after .wide) ≡ batchesOf g (length (l .nodes)) l (before .wide)
   pub within : RoomKept (g .n) (before .lent) (after .lent)
+  pub marks : Marks (g .n) (after .lent .words) epoch
+  pub epoch-is : epoch ≡ 1 + (at + at * g .params .extra)
 
+-- ---- the marks are cleared, once for all runs
+module _ {g : Given} {l : Listing} {before : Held} (r : RunsReady g l before) where
+  pub marks-fit : g .n ≤ length (before .lent .words)
+  marks-fit = let w = r .roomy .words in omega arith
+
+  module _ {words₁ : List ℕ} {epoch : ℕ} (first : FirstEpoch (g .n) (before .lent .words) words₁ epoch) where
+    abbrev begun : Held
+    begun = held (before .wide) words₁ (before .lent .floats)
+
+    pub begun-ready : RunsReady g l begun
+    begun-ready =
+        record {
+          limits = r .limits;
+          start-in = r .start-in;
+          order-is = r .order-is;
+          order-in = r .order-in;
+          seeds-are = r .seeds-are;
+          seeds-in = r .seeds-in;
+          extra-few = r .extra-few;
+          kept = r .kept;
+          roomy = record { words = omega (arith, r .roomy .words, first .kept .size); floats = r .roomy .floats };
+        }
+
+    pub runs-start : Running g l begun begun epoch 0
+    runs-start =
+        let q : 0 * g .params .extra ≡ 0 = omega arith in
+        record {
+          most = omega arith;
+          kept = r .kept;
+          same =
+              ap (λ (k : ℕ). batchesOf g (g .n) (listing (l .start) (l .nodes) (drop k (l .seeds))) (before .wide)) q
+              ∙ ap (λ (k : ℕ). batchesOf g k l (before .wide)) (sym (r .order-is));
+          within = record {
+            words = within-none 0 (freshEnd (g .n)) words₁;
+            floats = within-none 0 (floatsEnd (g .n)) (before .lent .floats);
+          };
+          marks = first .marks;
+          epoch-is = omega (arith, first .is);
+        }
+
+    pub runs-done : {after : Held} → RunsDone g l begun after → RunsDone g l before after
+    runs-done {after} d =
+        let w = freshEnd (g .n) in
+        record {
+          wide-is = d .wide-is;
+          kept = d .kept;
+          within = record {
+            words =
+                within-trans 0 w (before .lent .words) words₁ (after .lent .words)
+                (within-wider 0 (g .n) (before .lent .words) words₁ (first .kept) 0 w (omega arith) (omega arith)) (d .within .words);
+            floats = d .within .floats;
+          };
+        }
+
+-- ---- run after run
 module _ {g : Given} {l : Listing} {before : Held} (r : RunsReady g l before) where
   abbrev extra : ℕ
   extra = g .params .extra
 
-  pub runs-start : Running g l before before 0
-  runs-start =
-      let q : 0 * g .params .extra ≡ 0 = omega arith in
-      record {
-        most = omega arith;
-        kept = r .kept;
-        same =
-            ap (λ (k : ℕ). batchesOf g (g .n) (listing (l .start) (l .nodes) (drop k (l .seeds))) (before .wide)) q
-            ∙ ap (λ (k : ℕ). batchesOf g k l (before .wide)) (sym (r .order-is));
-        within = record {
-          words = within-none 0 (freshEnd (g .n)) (before .lent .words);
-          floats = within-none 0 (floatsEnd (g .n)) (before .lent .floats);
-        };
-      }
-
-  pub runs-end : {after : Held} {at : ℕ} → Running g l before after at → (at < g .n → ⊥) → RunsDone g l before after
-  runs-end {after} {at} s h =
+  pub runs-end : {after : Held} {epoch at : ℕ} → Running g l before after epoch at → (at < g .n → ⊥) → RunsDone g l before after
+  runs-end {after} {epoch} {at} s h =
       let m = s .most in
       let o = r .order-is in
       let left = leftOf g l at in
@@ -130,7 +176,7 @@ module _ {g : Given} {l : Listing} {before : Held} (r : RunsReady g l before) wh
         within = s .within;
       }
 
-  module _ {after : Held} {at : ℕ} (s : Running g l before after at) (h : at < g .n) {end : ℕ} (e : end ≡ min (at + 256) (g .n)) where
+  module _ {after : Held} {epoch at : ℕ} (s : Running g l before after epoch at) (h : at < g .n) {end : ℕ} (e : end ≡ min (at + 256) (g .n)) where
     pub end-most : end ≤ g .n
     end-most = omega arith
 
@@ -163,7 +209,19 @@ module _ {g : Given} {l : Listing} {before : Held} (r : RunsReady g l before) wh
     nodes-length : length (part at end (l .nodes)) ≡ end - at
     nodes-length = let m = end-most in let o = r .order-is in part-length at end (l .nodes) (omega arith)
 
-    pub run-asks : BatchReady g (runOf g l at end) after
+    run-seeds-length : length (runOf g l at end .seeds) ≡ length (runOf g l at end .nodes) * extra
+    run-seeds-length =
+        part-length (at * extra) (end * extra) (l .seeds) (seeds-fit .1) ∙ seeds-length ∙ ap (λ (k : ℕ). k * extra) (sym nodes-length)
+
+    -- the epoch as its walks leave it
+    epoch-then : epochAfter epoch (walksOf g (after .wide) (runOf g l at end)) ≡ 1 + (end + end * extra)
+    epoch-then =
+        let run = runOf g l at end in
+        let lt = end-later in
+        let walks = batch-walks (after .wide) (l .start) extra (run .nodes) (run .seeds) run-seeds-length in
+        omega (arith, walks, nodes-length, part-length (at * extra) (end * extra) (l .seeds) (seeds-fit .1), seeds-fit, s .epoch-is)
+
+    pub run-asks : BatchReady g (runOf g l at end) epoch after
     run-asks =
         let w = s .within .words .size in
         let f = s .within .floats .size in
@@ -178,10 +236,12 @@ module _ {g : Given} {l : Listing} {before : Held} (r : RunsReady g l before) wh
             start-in = r .start-in;
             few = omega arith;
             nodes-in = part-below (l .nodes) at end (r .order-in);
-            groups = part-length (at * extra) (end * extra) (l .seeds) (seeds-fit .1) ∙ seeds-length ∙ ap (λ (k : ℕ). k * extra) (sym nodes-length);
+            groups = run-seeds-length;
             seeds-in = part-below (l .seeds) (at * extra) (end * extra) (r .seeds-in);
           };
           roomy = record { words = omega arith; floats = omega arith };
+          marks = s .marks;
+          epochs = rw epoch-then (epochs-fit (omega (arith, end-most, r .limits .limits .nodes)) (r .extra-few));
         }
 
     -- what the definition cuts off is this run
@@ -217,7 +277,7 @@ module _ {g : Given} {l : Listing} {before : Held} (r : RunsReady g l before) wh
             let c = mul-le-mul-right extra few in
             inr (omega arith, omega arith)
 
-    module _ {more : Held} (b : BatchRun g (runOf g l at end) after more) where
+    module _ {more : Held} {last : ℕ} (b : BatchRun g (runOf g l at end) epoch last after more) where
       wide-is : more .wide ≡ batch (setting g) (l .start) extra (take 256 (left .nodes)) (take (256 * extra) (left .seeds)) (after .wide)
       wide-is =
           b .wide-is
@@ -233,7 +293,7 @@ module _ {g : Given} {l : Listing} {before : Held} (r : RunsReady g l before) wh
           (batch-kept (setting g) (after .wide) (r .limits .alpha-low) (omega arith) (s .kept) (l .start) extra (run .nodes) (run .seeds) (r .start-in)
           (part-in (l .nodes) at end (r .order-in)) (part-in (l .seeds) (at * extra) (end * extra) (r .seeds-in)))
 
-      pub runs-more : Running g l before more end
+      pub runs-more : Running g l before more last end
       runs-more =
           let lt = end-later in
           let o = r .order-is in
@@ -254,4 +314,6 @@ module _ {g : Given} {l : Listing} {before : Held} (r : RunsReady g l before) wh
               floats =
                   within-trans 0 (floatsEnd (g .n)) (before .lent .floats) (after .lent .floats) (more .lent .floats) (s .within .floats) (b .kept .floats);
             };
+            marks = b .marks;
+            epoch-is = b .epoch-is ∙ epoch-then;
           }

@@ -83,7 +83,7 @@ fn run_end(at: usize, n: usize) -> usize
     if end < n { end } else { n }
 }
 
-// The order in runs of 256, each a batch with as many groups of seeds.
+// The order in runs of 256, each a batch with as many groups of seeds. The marks are cleared once, and the epochs go on from run to run.
 fn run_batches(
     g: Ground,
     vectors: &[u8],
@@ -101,14 +101,16 @@ fn run_batches(
 {
     let n = g.n;
     let extra = g.params.extra;
+    let mut epoch = marks::first_epoch(words, n);
     let mut at = 0;
     while at < n {
         let end = run_end(at, n);
         let from = at * extra;
         let to = end * extra;
-        batch::run_batch(
+        epoch = batch::run_batch(
             g,
             vectors,
+            epoch,
             start,
             &order[at..end],
             &seeds[from..to],

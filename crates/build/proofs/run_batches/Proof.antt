@@ -6,20 +6,30 @@ use lib.ListN.{length}
 use Rattle.given.specs.Given.{given}
 use Rattle.given.specs.Listing.{listing}
 use Rattle.given.specs.Held.{held}
-use Rattle.build.specs.Runs.{Running, runs-start, runs-end, end-most, end-later, seeds-fit, run-asks, runs-more}
+use Rattle.build.specs.Runs.{RunsReady, Running, marks-fit, begun-ready, runs-start, runs-done, runs-end, end-most, end-later, seeds-fit, run-asks, runs-more}
 use Rattle.build.proofs.run_batches.Statement.{statement}
 use Rattle.build.proofs.run_batches.Tie as tie
 
 abbrev Inv-loop : tie.InvT-loop
-Inv-loop g vectors start order seeds wide₀ words₀ floats₀ n extra at₀ wide words floats at =
-    Running (given g vectors) (listing start order seeds) (held wide₀ words₀ floats₀) (held wide words floats) at
+Inv-loop g vectors start order seeds wide₀ words₀ floats₀ n extra epoch₀ at₀ wide words floats epoch at =
+    Running (given g vectors) (listing start order seeds) (held wide₀ words₀ floats₀) (held wide words floats) epoch at
 
 abbrev μ-loop : tie.MeasureT-loop
-μ-loop g vectors start order seeds wide₀ words₀ floats₀ n extra at₀ wide words floats at = n - at
+μ-loop g vectors start order seeds wide₀ words₀ floats₀ n extra epoch₀ at₀ wide words floats epoch at = n - at
 
--- from a turn of the loop back to the call
+-- from a turn of the loop back to where the marks were cleared, and on to the call
+abbrev begun : (tie.At-loop Inv-loop μ-loop) → (tie.After-first-epoch Inv-loop μ-loop)
+begun c = c .before .before .before
+
 abbrev called : (tie.At-loop Inv-loop μ-loop) → (tie.Start Inv-loop μ-loop)
-called c = c .before .before .before .before .before .before .before
+called c = begun c .before .before .before .before .before .before .before .before
+
+-- the runs may begin
+ready : (c : (tie.At-loop Inv-loop μ-loop))
+    → let a = called c .args in
+    RunsReady (given (a .g) (a .vectors .now)) (listing (a .start) (a .order .now) (a .seeds .now))
+    (held (a .wide .now) (begun c .first-epoch .last .0) (a .floats .now))
+ready c = begun-ready (called c .pre) (begun c .first-epoch .ensures)
 
 -- the run ends after it begins, within the order
 nodes-in : (c : (tie.After-run-end Inv-loop μ-loop))
@@ -30,8 +40,8 @@ nodes-in c =
     let turn = c .before .before in
     let s = called turn in
     let more = c .before .loop-test .taken in
-    let later = end-later (s .pre) (turn .loop .inv) (omega (arith, more)) (c .run-end .ensures) in
-    let most = end-most (s .pre) (turn .loop .inv) (omega (arith, more)) (c .run-end .ensures) in
+    let later = end-later (ready turn) (turn .loop .inv) (omega (arith, more)) (c .run-end .ensures) in
+    let most = end-most (ready turn) (turn .loop .inv) (omega (arith, more)) (c .run-end .ensures) in
     (later, most, omega (arith, s .pre .order-is))
 
 -- and so do its groups of seeds
@@ -39,13 +49,18 @@ seeds-in : (c : (tie.After-run-end Inv-loop μ-loop))
     → let a = called (c .before .before) .args in
     let end = c .run-end .result * a .g .params .extra in
     (c .before .before .loop .at * a .g .params .extra ≤ end) × (end ≤ length (a .seeds .now))
-seeds-in c = let turn = c .before .before in seeds-fit (called turn .pre) (turn .loop .inv) (omega (arith, c .before .loop-test .taken)) (c .run-end .ensures)
+seeds-in c = let turn = c .before .before in seeds-fit (ready turn) (turn .loop .inv) (omega (arith, c .before .loop-test .taken)) (c .run-end .ensures)
+
+first-epoch-requires : tie.Need-first-epoch-requires Inv-loop μ-loop
+first-epoch-requires c κs = marks-fit (c .before .before .before .before .before .before .before .pre)
 
 loop-holds : tie.Need-loop-holds Inv-loop μ-loop
-loop-holds c = runs-start (c .before .before .before .before .before .before .pre)
+loop-holds c =
+    let first = c .before .before in
+    runs-start (first .before .before .before .before .before .before .before .before .pre) (first .first-epoch .ensures)
 
 run-end-requires : tie.Need-run-end-requires Inv-loop μ-loop
-run-end-requires c κs = (c .before .loop .inv .most, c .before .before .before .before .before .before .before .before .pre .limits .limits .nodes)
+run-end-requires c κs = (c .before .loop .inv .most, called (c .before) .pre .limits .limits .nodes)
 
 mul-from : tie.Need-mul-from Inv-loop μ-loop
 mul-from c = omega (arith, seeds-in c .0, seeds-in c .1)
@@ -81,7 +96,7 @@ run-batch-requires : tie.Need-run-batch-requires Inv-loop μ-loop
 run-batch-requires c κs =
     let ended = c .before .before .before .before .before in
     let turn = ended .before .before in
-    run-asks (called turn .pre) (turn .loop .inv) (omega (arith, ended .before .loop-test .taken)) (ended .run-end .ensures)
+    run-asks (ready turn) (turn .loop .inv) (omega (arith, ended .before .loop-test .taken)) (ended .run-end .ensures)
 
 loop-less : tie.Need-loop-less Inv-loop μ-loop
 loop-less c =
@@ -94,19 +109,21 @@ loop-again c =
     let ended = ran .before .before .before .before .before .before in
     let turn = ended .before .before in
     let more = ended .before .loop-test .taken in
-    runs-more (called turn .pre) (turn .loop .inv) (omega (arith, more)) (ended .run-end .ensures) (ran .run-batch .ensures)
+    runs-more (ready turn) (turn .loop .inv) (omega (arith, more)) (ended .run-end .ensures) (ran .run-batch .ensures)
 
 same-length : tie.Need-same-length Inv-loop μ-loop
 same-length c = c .before .loop .inv .kept .size ∙ sym (called (c .before) .pre .kept .size)
 
 same-length-2 : tie.Need-same-length-2 Inv-loop μ-loop
-same-length-2 c = c .before .loop .inv .within .words .size
+same-length-2 c = c .before .loop .inv .within .words .size ∙ begun (c .before) .first-epoch .ensures .kept .size
 
 same-length-3 : tie.Need-same-length-3 Inv-loop μ-loop
 same-length-3 c = c .before .loop .inv .within .floats .size
 
 returns : tie.Need-returns Inv-loop μ-loop
-returns c = runs-end (called (c .before) .pre) (c .before .loop .inv) (omega arith)
+returns c =
+    let turn = c .before in
+    runs-done (called turn .pre) (begun turn .first-epoch .ensures) (runs-end (ready turn) (turn .loop .inv) (omega arith))
 
 pub run-batches-spec : {M : Type 1} → statement M
 run-batches-spec =
@@ -114,6 +131,7 @@ run-batches-spec =
     (tie.spec
     Inv-loop
     μ-loop
+    first-epoch-requires
     loop-holds
     run-end-requires
     mul-from
