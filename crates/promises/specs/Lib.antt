@@ -4,6 +4,7 @@
 --   Rows                demand 3, first sentence: every call leaves rows as Kept (theory) says; 8 does not come further on; which rows a batch leaves
 --   Alike               what does not matter to a call: close's beam and extra seeds, an alpha below 1.0
 --   Calls, Building     a whole build as public calls; that it is these calls
+--   Walking             how many searches a batch and a whole build make, and the greatest epoch
 --   Slack               the slack in whole numbers
 --   Searching           demand 3, second sentence, of every accepted search: what answers tell and exclude (Tells, in theory)
 --   Held                the same over what a caller holds after a search, with a run of records or not
@@ -33,4 +34,5 @@ pub mod Fitting
 pub mod Alike
 pub mod Calls
 pub mod Building
+pub mod Walking
 pub mod Drawn
