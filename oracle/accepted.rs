@@ -314,16 +314,21 @@ pub fn ties(r: &mut Rng, n: usize) {
 
 pub fn batch(r: &mut Rng, n: usize) {
     let d = data(r, n);
-    let s = slack(d.params.degree);
-    let rows = rows(r, n, s.min(n - 1));
     let count = match r.below(4) {
         0 => n.min(256),
         1 if n < 200 => 0,
         _ => r.below(n.min(256) + 1),
     };
+    batch_beside(r, &d, count);
+}
+
+/// A batch of so many nodes, on rows of any length.
+fn batch_beside(r: &mut Rng, d: &Data, count: usize) {
+    let (n, s) = (d.n, slack(d.params.degree));
+    let rows = rows(r, n, s.min(n - 1));
     let nodes = r.distinct(count, n, &[]);
-    let seeds = seeds(r, &d, nodes.len());
-    note_build_limits(&d);
+    let seeds = seeds(r, d, nodes.len());
+    note_build_limits(d);
     note_if(count == 0, "batch of no nodes");
     note_if(count == 256, "batch of 256");
     let mut wide = with(r, &flat(&rows, s), n * s);
@@ -373,15 +378,19 @@ pub fn close(r: &mut Rng, n: usize) {
     must(room.cleared(n), "close: room");
 }
 
-/// A whole build, and a search of what it built.
 pub fn build(r: &mut Rng, n: usize) {
     let d = data(r, n);
-    let (degree, s) = (d.params.degree, slack(d.params.degree));
+    build_beside(r, &d);
+}
+
+/// A whole build, and a search of what it built.
+fn build_beside(r: &mut Rng, d: &Data) {
+    let (n, degree, s) = (d.n, d.params.degree, slack(d.params.degree));
     let rows = rows(r, n, degree.min(n - 1));
     let opening = flat(&rows, degree);
     let order = r.shuffled(n);
-    let seeds = seeds(r, &d, n);
-    note_build_limits(&d);
+    let seeds = seeds(r, d, n);
+    note_build_limits(d);
     let b =
         probe::Build { n, dim: d.dim, vectors: &d.vectors, params: params(d.params), start: d.start, order: &order, seeds: &seeds, rows };
     let (want_wide, want_closed) = probe::build(b, probe::Bytes);
@@ -395,6 +404,18 @@ pub fn build(r: &mut Rng, n: usize) {
     must(closed.begins(&flat(&want_closed, degree)), "build: closed table");
     must(room.cleared(n), "build: room");
     let table = closed.lend().to_vec();
-    search_on(r, &d, &table, Call::Search);
-    search_on(r, &d, &table, Call::Lookup);
+    search_on(r, d, &table, Call::Search);
+    search_on(r, d, &table, Call::Lookup);
+}
+
+/// As many searches as a call can make: 16 extra seeds for each node. A batch of all entries, or of 256, and a build, which has two to four runs in
+/// a large case: the marks of one run are then those of the next.
+pub fn walks(r: &mut Rng, n: usize) {
+    let n = if n > 200 { 257 + r.below(700) } else { 17 + r.below(30) };
+    let mut d = data(r, n);
+    d.params.extra = 16;
+    d.params.beam = r.pick(&[0, 1, 2, 8, 24]);
+    note_if(n > 512, "a build of three runs or more");
+    batch_beside(r, &d, n.min(256));
+    build_beside(r, &d);
 }

@@ -31,7 +31,7 @@ struct Kind {
     large: bool,
 }
 
-const KINDS: [Kind; 24] = [
+const KINDS: [Kind; 25] = [
     Kind { name: "distance", run: accepted::distance, large: false },
     Kind { name: "medoid", run: accepted::medoid, large: true },
     Kind { name: "search", run: accepted::search, large: true },
@@ -56,6 +56,7 @@ const KINDS: [Kind; 24] = [
     Kind { name: "report", run: accepted::report, large: true },
     Kind { name: "report refused", run: refused::report, large: false },
     Kind { name: "ties", run: accepted::ties, large: true },
+    Kind { name: "walks", run: accepted::walks, large: true },
 ];
 
 /// A case's number holds all that decides it: the run's seed, the kind, whether it is large, and its place.
