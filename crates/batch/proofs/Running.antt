@@ -11,10 +11,10 @@ use Rattle.scratch.specs.Layout.{stampsAt, poolDistsAt, mostFactors, headsAt, l
 use Rattle.scratch.specs.Lent.{Lent, lent}
 use Rattle.scratch.specs.Zeroed.{zeroed-within, zeroed-at}
 use Rattle.given.specs.Given.{Given, setting, WalkLimits, Wide}
-use Rattle.given.specs.Listing.{Listing, Listable}
+use Rattle.given.specs.Listing.{Listing, walksOf, Listable}
 use Rattle.given.specs.Held.{Held, held}
 use Rattle.marks.specs.Marked.{Marks}
-use Rattle.batch_fresh.specs.Made.{Between, walksOf, FreshRows}
+use Rattle.batch_fresh.specs.Made.{Between, FreshRows}
 use Rattle.batch_fresh.specs.Once.{fresh-once, fresh-below, between-start}
 use Rattle.batch_merge.specs.Says.{MergeReady, Merged}
 use Rattle.batch.specs.Says.{BatchReady, BatchRun}

@@ -18,10 +18,9 @@ use Rattle.scratch.specs.Clear.{RoomClear}
 use Rattle.scratch.specs.Layout.{freshEnd, floatsEnd}
 use Rattle.accepted.specs.Outcomes.{by-refusal, by-success}
 use Rattle.given.specs.Given.{Given}
-use Rattle.given.specs.Listing.{Listing, listing}
+use Rattle.given.specs.Listing.{Listing, listing, walksOf}
 use Rattle.given.specs.Held.{Held, held}
 use Rattle.marks.specs.Marked.{FirstEpoch}
-use Rattle.batch_fresh.specs.Made.{walksOf}
 use Rattle.batch.specs.Says.{BatchReady, BatchRun}
 
 -- what a batch's call gives, lists and holds

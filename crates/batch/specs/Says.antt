@@ -4,10 +4,9 @@ use Prim.Native.Nat.{ℕ, _<_}
 use Rattle.definition.specs.Batch.{batch}
 use Rattle.theory.specs.build.Walks.{epochAfter, epochEnd}
 use Rattle.given.specs.Given.{Given, setting, WalkLimits, Wide}
-use Rattle.given.specs.Listing.{Listing, Listable}
+use Rattle.given.specs.Listing.{Listing, walksOf, Listable}
 use Rattle.given.specs.Held.{Held, Roomy, RoomKept}
 use Rattle.marks.specs.Marked.{Marks}
-use Rattle.batch_fresh.specs.Made.{walksOf}
 
 -- no mark is past the epoch, and there is room for the epochs of its walks
 pub record BatchReady (g : Given) (l : Listing) (epoch : ℕ) (h : Held) : Type 0 where

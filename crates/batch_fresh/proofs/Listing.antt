@@ -19,9 +19,9 @@ use Rattle.theory.specs.build.Walks.{node-walks, batch-walks, epochAfter, epoch
 use Rattle.scratch.specs.Layout.{mostFactors, freshAt, freshRowAt}
 use Rattle.scratch.specs.Lent.{Lent}
 use Rattle.given.specs.Given.{Given, setting}
-use Rattle.given.specs.Listing.{Listing, Listable}
+use Rattle.given.specs.Listing.{Listing, walksOf, Listable}
 use Rattle.given.specs.Fresh.{freshRow}
-use Rattle.batch_fresh.specs.Made.{Fit, Insertion, insertion, Insertable, inserted, walksFor, walksOf, freshFor, RowMade, RowsMade, FreshRows}
+use Rattle.batch_fresh.specs.Made.{Fit, Insertion, insertion, Insertable, inserted, walksFor, freshFor, RowMade, RowsMade, FreshRows}
 
 ids-padded : (width : ℕ) (xs : List ℕ) → ((x : ℕ) → Mem x xs → x ≡ pad → ⊥) → ids (padded width xs) ≡ xs
 unfolding padded

@@ -11,7 +11,7 @@ use Rattle.laws.specs.Listed.{freshWidth}
 use Rattle.laws.specs.Apart.{Apart}
 use Rattle.laws.specs.Parts.{Within}
 use Rattle.laws.specs.Words.{Below}
-use Rattle.theory.specs.build.Walks.{Walk, nodeWalks, batchWalks}
+use Rattle.theory.specs.build.Walks.{Walk, nodeWalks}
 use Rattle.scratch.specs.Layout.{stampsAt, mostFactors, freshRowAt, freshEnd}
 use Rattle.scratch.specs.Lent.{Lent}
 use Rattle.given.specs.Given.{Given, setting}
@@ -53,12 +53,9 @@ pub record Insertable (g : Given) (i : Insertion) : Type 0 where
 abbrev pub inserted : Given → Listing → ℕ → Insertion
 inserted g l q = insertion q (getD (l .nodes) q 0) (l .start) (take (g .params .extra) (drop (q * g .params .extra) (l .seeds)))
 
--- the walks for its pool, and those of all listed nodes: each adds 1 to the epoch
+-- the walks for its pool
 abbrev pub walksFor : List ℕ → Insertion → List Walk
 walksFor wide i = nodeWalks wide (i .start) (i .node) (i .seeds)
-
-abbrev pub walksOf : Given → List ℕ → Listing → List Walk
-walksOf g wide l = batchWalks wide (l .start) (l .nodes) (groups (length (l .nodes)) (g .params .extra) (l .seeds))
 
 -- its fresh row, by the definition
 unfoldable pub freshFor : Given → List ℕ → Insertion → List ℕ

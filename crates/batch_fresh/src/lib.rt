@@ -11,10 +11,10 @@ ghost use lib.ListN.{length};
 ghost use Rattle.scratch.specs.Layout.{mostFactors};
 ghost use Rattle.scratch.specs.Lent.{lent};
 ghost use Rattle.given.specs.Given.{given, WalkLimits, Wide};
-ghost use Rattle.given.specs.Listing.{listing, Listable};
+ghost use Rattle.given.specs.Listing.{listing, walksOf, Listable};
 ghost use Rattle.theory.specs.build.Walks.{epochAfter, epochEnd};
 ghost use Rattle.marks.specs.Marked.{Marks};
-ghost use Rattle.batch_fresh.specs.Made.{Between, insertion, Insertable, walksFor, walksOf, NodePool, RowMade, FreshRows};
+ghost use Rattle.batch_fresh.specs.Made.{Between, insertion, Insertable, walksFor, NodePool, RowMade, FreshRows};
 ghost use Rattle.batch_fresh.specs.Says.{Prunable, prunedFor, Fresh};
 
 // The fresh row at `place`, pruned from the pool of a node, which has len ids. The words are lent for the pool while the row is made, so it is made beside them

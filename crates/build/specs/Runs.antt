@@ -20,7 +20,7 @@ use Rattle.laws.specs.Parts.{part, part-length, within-wider, within-trans, wit
 use Rattle.laws.specs.Words.{Below}
 use Rattle.scratch.specs.Layout.{freshEnd, floatsEnd}
 use Rattle.given.specs.Given.{Given, setting, WalkLimits}
-use Rattle.given.specs.Listing.{Listing, listing}
+use Rattle.given.specs.Listing.{Listing, listing, walksOf}
 use Rattle.given.specs.Held.{Held, held, Roomy, RoomKept}
 use Rattle.theory.specs.Kept.{TableKept}
 use Rattle.theory.specs.Rule.{kept-searchable}
@@ -28,7 +28,6 @@ use Rattle.theory.specs.build.Runs.{batches-same}
 use Rattle.theory.specs.build.Batches.{batch-kept}
 use Rattle.theory.specs.build.Walks.{batch-walks, epochAfter, epochs-fit}
 use Rattle.marks.specs.Marked.{Marks, FirstEpoch}
-use Rattle.batch_fresh.specs.Made.{walksOf}
 use Rattle.batch.specs.Says.{BatchReady, BatchRun}
 
 -- all ids are entries
