@@ -80,7 +80,7 @@ module _ (c : BuildCall) (z : buildNumber c ≡ 0) where
             roomy = record { words = a .word-room; floats = a .float-room };
           }
 
-      module _ {after : Held} (run : RunsDone (givenBy c width) (listedBy c) (held wide₁ (c .words) (c .floats)) after) where
+      module _ {last : ℕ} {after : Held} (run : RunsDone (givenBy c width) (listedBy c) last (held wide₁ (c .words) (c .floats)) after) where
         -- the factors of close are lent from the floats that the runs left
         abbrev lentFloats : List Float
         lentFloats = part 0 mostFactors (after .lent .floats)

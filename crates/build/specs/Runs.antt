@@ -26,7 +26,7 @@ use Rattle.theory.specs.Kept.{TableKept}
 use Rattle.theory.specs.Rule.{kept-searchable}
 use Rattle.theory.specs.build.Runs.{batches-same}
 use Rattle.theory.specs.build.Batches.{batch-kept}
-use Rattle.theory.specs.build.Walks.{batch-walks, epochAfter, epochs-fit}
+use Rattle.theory.specs.build.Walks.{runWalks, batch-walks, run-walks, epochAfter, epochs-fit}
 use Rattle.marks.specs.Marked.{Marks, FirstEpoch}
 use Rattle.batch.specs.Says.{BatchReady, BatchRun}
 
@@ -46,10 +46,11 @@ pub record RunsReady (g : Given) (l : Listing) (h : Held) : Type 0 where
   pub kept : TableKept (g .n) (slack (g .params .degree)) (h .wide)
   pub roomy : Roomy (g .n) (h .lent)
 
-pub record RunsDone (g : Given) (l : Listing) (before after : Held) : Type 0 where
+pub record RunsDone (g : Given) (l : Listing) (last : ℕ) (before after : Held) : Type 0 where
   pub wide-is : after .wide ≡ batches (setting g) (l .start) (g .params .extra) (length (l .nodes)) (l .nodes) (l .seeds) (before .wide)
   pub kept : TableKept (g .n) (slack (g .params .degree)) (after .wide)
   pub within : RoomKept (g .n) (before .lent) (after .lent)
+  pub epoch-is : last ≡ epochAfter 1 (runWalks (setting g) (l .start) (g .params .extra) (length (l .nodes)) (l .nodes) (l .seeds) (before .wide))
 
 -- ---- the definition, one run at a time
 
@@ -144,8 +145,8 @@ module _ {g : Given} {l : Listing} {before : Held} (r : RunsReady g l before) wh
           epoch-is = omega (arith, first .is);
         }
 
-    pub runs-done : {after : Held} → RunsDone g l begun after → RunsDone g l before after
-    runs-done {after} d =
+    pub runs-done : {last : ℕ} {after : Held} → RunsDone g l last begun after → RunsDone g l last before after
+    runs-done {last} {after} d =
         let w = freshEnd (g .n) in
         record {
           wide-is = d .wide-is;
@@ -156,6 +157,7 @@ module _ {g : Given} {l : Listing} {before : Held} (r : RunsReady g l before) wh
                 (within-wider 0 (g .n) (before .lent .words) words₁ (first .kept) 0 w (omega arith) (omega arith)) (d .within .words);
             floats = d .within .floats;
           };
+          epoch-is = d .epoch-is;
         }
 
 -- ---- run after run
@@ -163,16 +165,22 @@ module _ {g : Given} {l : Listing} {before : Held} (r : RunsReady g l before) wh
   abbrev extra : ℕ
   extra = g .params .extra
 
-  pub runs-end : {after : Held} {epoch at : ℕ} → Running g l before after epoch at → (at < g .n → ⊥) → RunsDone g l before after
+  pub runs-end : {after : Held} {epoch at : ℕ} → Running g l before after epoch at → (at < g .n → ⊥) → RunsDone g l epoch before after
   runs-end {after} {epoch} {at} s h =
       let m = s .most in
       let o = r .order-is in
       let left = leftOf g l at in
       let none : length (drop at (l .nodes)) ≡ 0 = length-drop at (l .nodes) ∙ omega arith in
+      let all : at ≡ g .n = omega arith in
+      let same : at * extra ≡ g .n * extra = ap (λ (k : ℕ). k * extra) all in
+      let order : length (l .nodes) * extra ≡ g .n * extra = ap (λ (k : ℕ). k * extra) (r .order-is) in
+      let seeds = r .seeds-are in
+      let walks = run-walks (setting g) (l .start) extra (length (l .nodes)) (l .nodes) (l .seeds) (before .wide) (omega arith) (omega arith) in
       record {
         wide-is = sym (none-left (setting g) (l .start) extra (g .n) (left .nodes) (left .seeds) (after .wide) none) ∙ s .same;
         kept = s .kept;
         within = s .within;
+        epoch-is = omega (arith, s .epoch-is);
       }
 
   module _ {after : Held} {epoch at : ℕ} (s : Running g l before after epoch at) (h : at < g .n) {end : ℕ} (e : end ≡ min (at + 256) (g .n)) where

@@ -83,7 +83,8 @@ fn run_end(at: usize, n: usize) -> usize
     if end < n { end } else { n }
 }
 
-// The order in runs of 256, each a batch with as many groups of seeds. The marks are cleared once, and the epochs go on from run to run.
+// The order in runs of 256, each a batch with as many groups of seeds. The marks are cleared once, and the epochs go on from run to run: it
+// returns the last.
 fn run_batches(
     g: Ground,
     vectors: &[u8],
@@ -93,9 +94,9 @@ fn run_batches(
     wide: &mut [u32],
     words: &mut [u32],
     floats: &mut [f32],
-)
+) -> u32
     requires { ⌜ RunsReady (given g (now vectors)) (listing start (now order) (now seeds)) (held (now wide) (now words) (now floats)) ⌝ }
-    ensures { λ _. ⌜ RunsDone (given g (now (vectors .entry))) (listing start (now (order .entry)) (now (seeds .entry)))
+    ensures { λ r. ⌜ RunsDone (given g (now (vectors .entry))) (listing start (now (order .entry)) (now (seeds .entry))) r
         (held (now (wide .entry)) (now (words .entry)) (now (floats .entry)))
         (held (now (wide .exit)) (now (words .exit)) (now (floats .exit))) ⌝ }
 {
@@ -120,6 +121,7 @@ fn run_batches(
         );
         at = end;
     }
+    epoch
 }
 
 // The whole build: open, the order in runs of 256, close; or the number of the refusal.
