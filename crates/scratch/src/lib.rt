@@ -3,7 +3,7 @@ ghost use mathlib.Core.Path.{_≡_};
 ghost use Prim.Native.Nat.{_+_, _*_, _≤_, _<_};
 ghost use lib.ListN.{length, replicate};
 ghost use lib.Ieee.{ofBits, binary32};
-ghost use Rattle.scratch.specs.Layout.{visitedAt, visitedDistsAt, poolAt, stampsAt, poolDistsAt, poolEnd, headsAt, seatsAt, linksAt, linksEnd};
+ghost use Rattle.scratch.specs.Layout.{visitedAt, visitedDistsAt, poolAt, stampsAt, poolDistsAt, poolEnd, headsAt, seatsAt, linksAt};
 ghost use Rattle.scratch.specs.Layout.{freshAt, freshRowAt, freshEnd, searchEnd, searchFloatsEnd, reportEnd, reportFloatsEnd, floatsEnd};
 ghost use Rattle.scratch.specs.Clear.{FrontClear, RoomClear};
 
@@ -80,13 +80,6 @@ pub fn links_at(n: usize) -> usize
     ensures { λ r. ⌜ r ≡ linksAt n ⌝ }
 {
     3 * n
-}
-
-pub fn links_end(n: usize) -> usize
-    requires { ⌜ n ≤ 65536 ⌝ }
-    ensures { λ r. ⌜ r ≡ linksEnd n ⌝ }
-{
-    3 * n + 16384
 }
 
 // The fresh rows, and the p-th of them.
