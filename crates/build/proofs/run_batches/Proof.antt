@@ -1,4 +1,5 @@
--- `run_batches` meets its contract. The invariant: the batches that are left of the order, on the table as it is, give what all of them give on the opened one.
+-- `run_batches` meets its contract. The invariant: the batches that are left of the order, on the table as it is, give what all give on the opened one; and
+-- no mark is past the epoch.
 use mathlib.Core.Path.{sym, _∙_}
 use Prim.Native.Nat.{_*_, _-_, _≤_, _<_}
 use native.Mathlib.Omega.{arith}
@@ -6,7 +7,8 @@ use lib.ListN.{length}
 use Rattle.given.specs.Given.{given}
 use Rattle.given.specs.Listing.{listing}
 use Rattle.given.specs.Held.{held}
-use Rattle.build.specs.Runs.{RunsReady, Running, marks-fit, begun-ready, runs-start, runs-done, runs-end, end-most, end-later, seeds-fit, run-asks, runs-more}
+use Rattle.build.specs.Runs.{RunsReady, Running, marks-fit, begun-ready, runs-start, runs-done, runs-end, end-most, end-later, seeds-fit, run-asks}
+use Rattle.build.specs.Runs.{runs-more}
 use Rattle.build.proofs.run_batches.Statement.{statement}
 use Rattle.build.proofs.run_batches.Tie as tie
 
