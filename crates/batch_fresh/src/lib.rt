@@ -129,7 +129,7 @@ fn fresh_row(
     c.epoch
 }
 
-// The fresh rows of all listed nodes, one after another, all from the wide rows as they are. Returns the epoch of the last walk.
+// The fresh rows of all listed nodes, one after another, all from the wide rows as they are. Returns the epoch that their walks come to.
 pub fn fresh_rows(
     g: Ground,
     vectors: &[u8],
