@@ -9,7 +9,7 @@ use definition::Params;
 use given::Ground;
 
 // A batch that no check refuses: the fresh rows of all listed nodes from the rows as they are, and only then the merge. The marks of the walks are as the one
-// before left them, and the epochs go on: it returns the last. The stamps of the pools, which lie where the merge has its links, begin at 0.
+// before left them, and the epochs go on: it returns the last. The stamps of the pools begin at 0: a stamp is a node's place in this batch.
 pub fn run_batch(
     g: Ground,
     vectors: &[u8],
