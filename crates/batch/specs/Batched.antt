@@ -10,7 +10,7 @@ use Rattle.definition.specs.Slack.{slack}
 use Rattle.definition.specs.Refusals.{BatchCall, batchNumber}
 use Rattle.definition.specs.Outcome.{refused, done, BatchOut, batchKept, batchDone, batchOut, BatchMeets}
 use Rattle.laws.specs.Members.{mem-at}
-use Rattle.laws.specs.Parts.{Within, within-wider, within-trans}
+use Rattle.laws.specs.Parts.{Within}
 use Rattle.theory.specs.build.Walks.{batch-walks, epochAfter, epochEnd, epochs-fit}
 use Rattle.accepted.specs.Checks.{extra-good}
 use Rattle.accepted.specs.Build.{batch-accepted}
@@ -21,6 +21,7 @@ use Rattle.given.specs.Given.{Given}
 use Rattle.given.specs.Listing.{Listing, listing, walksOf}
 use Rattle.given.specs.Held.{Held, held}
 use Rattle.marks.specs.Marked.{FirstEpoch}
+use Rattle.marks.specs.Visits.{first-then}
 use Rattle.batch.specs.Says.{BatchReady, BatchRun}
 
 -- what a batch's call gives, lists and holds
@@ -86,9 +87,7 @@ module _ (c : BatchCall) (z : batchNumber c ≡ 0) where
 
     module _ {last : ℕ} {after : Held} (run : BatchRun (givenBy c width) (listedBy c) epoch last begun after) where
       kept : Within 0 (freshEnd (c .n)) (c .words) (after .lent .words)
-      kept =
-          within-trans 0 (freshEnd (c .n)) (c .words) words₁ (after .lent .words)
-          (within-wider 0 (c .n) (c .words) words₁ (first .kept) 0 (freshEnd (c .n)) (omega arith) (omega arith)) (run .kept .words)
+      kept = first-then first (freshEnd (c .n)) (omega arith) (run .kept .words)
 
       pub batch-room : (c .n ≤ 65536) × (freshEnd (c .n) ≤ length (after .lent .words)) × (floatsEnd (c .n) ≤ length (after .lent .floats))
       batch-room =

@@ -16,7 +16,7 @@ use Rattle.definition.specs.Batch.{Setting, batch}
 use Rattle.definition.specs.Build.{batchSize, batches}
 use Rattle.definition.specs.Outcome.{settingOf}
 use Rattle.laws.specs.Members.{take-mem, drop-mem, mem-at}
-use Rattle.laws.specs.Parts.{part, part-length, within-wider, within-trans, within-none}
+use Rattle.laws.specs.Parts.{part, part-length, within-trans, within-none}
 use Rattle.laws.specs.Words.{Below}
 use Rattle.scratch.specs.Layout.{freshEnd, floatsEnd}
 use Rattle.given.specs.Given.{Given, setting, WalkLimits}
@@ -28,6 +28,7 @@ use Rattle.theory.specs.build.Runs.{batches-same}
 use Rattle.theory.specs.build.Batches.{batch-kept}
 use Rattle.theory.specs.build.Walks.{runWalks, batch-walks, run-walks, epochAfter, epochs-fit}
 use Rattle.marks.specs.Marked.{Marks, FirstEpoch}
+use Rattle.marks.specs.Visits.{first-then}
 use Rattle.batch.specs.Says.{BatchReady, BatchRun}
 
 -- all ids are entries
@@ -146,17 +147,11 @@ module _ {g : Given} {l : Listing} {before : Held} (r : RunsReady g l before) wh
         }
 
     pub runs-done : {last : ℕ} {after : Held} → RunsDone g l last begun after → RunsDone g l last before after
-    runs-done {last} {after} d =
-        let w = freshEnd (g .n) in
+    runs-done d =
         record {
           wide-is = d .wide-is;
           kept = d .kept;
-          within = record {
-            words =
-                within-trans 0 w (before .lent .words) words₁ (after .lent .words)
-                (within-wider 0 (g .n) (before .lent .words) words₁ (first .kept) 0 w (omega arith) (omega arith)) (d .within .words);
-            floats = d .within .floats;
-          };
+          within = record { words = first-then first (freshEnd (g .n)) (omega arith) (d .within .words); floats = d .within .floats };
           epoch-is = d .epoch-is;
         }
 

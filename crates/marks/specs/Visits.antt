@@ -1,4 +1,4 @@
--- The marks of a walk: at its start, where something beyond them was written, and how many they can be.
+-- The marks of a call and of a walk: at the start, where something beyond them was written, and how many they can be.
 use mathlib.Core.Path.{_≡_, sym, ap, _∙_}
 use mathlib.Core.List.{List, []}
 use Prim.Native.Nat.{ℕ, _≤_, _<_}
@@ -8,10 +8,16 @@ use lib.Dec.{eqb}
 use lib.ListN.{length, getD, take, set, length-set}
 use lib.Seq.{length-take-le, getD-take, take-take, getD-set-same, getD-set-other}
 use Rattle.definition.specs.Lists.{isIn}
-use Rattle.laws.specs.Parts.{Within, within-at}
+use Rattle.laws.specs.Parts.{Within, within-at, within-wider, within-trans}
 use Rattle.scratch.specs.Layout.{strayAt, visitedAt}
-use Rattle.marks.specs.Marked.{count, visitedOf, Marked, Seen}
+use Rattle.marks.specs.Marked.{count, visitedOf, Marked, FirstEpoch, Seen}
 use Rattle.marks.specs.Counting.{count-le, count-none}
+
+-- ---- the start of a call: what it writes after its marks were cleared, it writes as one stretch with them
+pub first-then : {n epoch : ℕ} {before marked after : List ℕ} → FirstEpoch n before marked epoch → (e : ℕ) → n ≤ e → Within 0 e marked after
+    → Within 0 e before after
+first-then {n} {epoch} {before} {marked} {after} first e h w =
+    within-trans 0 e before marked after (within-wider 0 n before marked (first .kept) 0 e (omega arith) h) w
 
 -- ---- the start of a walk: no mark is the epoch but that of what is no entry
 module _ (n epoch : ℕ) (words : List ℕ) (below : (i : ℕ) → i < n → getD words i 0 < epoch) where

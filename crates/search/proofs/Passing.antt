@@ -12,7 +12,7 @@ use Rattle.definition.specs.Floats.{nought}
 use Rattle.definition.specs.Search.{ranked}
 use Rattle.definition.specs.Outcome.{answer, searchDone}
 use Rattle.definition.specs.Refusals.{SearchCall, searchWords, mostAnswers}
-use Rattle.laws.specs.Parts.{Within, within-wider, within-trans}
+use Rattle.laws.specs.Parts.{Within, within-wider}
 use Rattle.laws.specs.Filled.{cleared-same}
 use Rattle.laws.specs.Cleaned.{length-cleaned}
 use Rattle.scratch.specs.Lent.{Lent, lent}
@@ -20,6 +20,7 @@ use Rattle.scratch.specs.Layout.{searchEnd, searchFloatsEnd}
 use Rattle.beam.specs.Keys.{Rising}
 use Rattle.theory.specs.build.Walks.{epochEnd}
 use Rattle.marks.specs.Marked.{FirstEpoch}
+use Rattle.marks.specs.Visits.{first-then}
 use Rattle.kept.specs.Says.{Tells}
 use Rattle.greedy.specs.declared.Plan.{Plan}
 use Rattle.greedy.specs.declared.Walked.{Walked}
@@ -63,9 +64,7 @@ module _ (c : SearchCall) (a : Accepted c) (table : List ℕ) (table-is : c .tab
         (count : ℕ) (count-is : count ≡ min (c .k) (r .work)) where
       kept : Within 0 (searchEnd n) (c .words) after
       unfolding walkEnd
-      kept =
-          within-trans 0 (searchEnd n) (c .words) _ after (within-wider 0 n _ _ (first .kept) 0 (searchEnd n) zero-le (omega arith))
-          (within-wider 0 _ _ _ (walks .words-kept) 0 (searchEnd n) zero-le (omega arith))
+      kept = first-then first (searchEnd n) (omega arith) (within-wider 0 _ _ _ (walks .words-kept) 0 (searchEnd n) zero-le (omega arith))
 
       -- ---- the answers may be listed, and the room wiped
       few : count ≤ mostAnswers (c .beam) (c .k)
