@@ -18,7 +18,8 @@ use Rattle.definition.specs.Floats.{nought}
 use Rattle.definition.specs.Batch.{Setting, batch}
 use Rattle.definition.specs.Build.{open′, close, built}
 use Rattle.definition.specs.Medoid.{medoid}
-use Rattle.definition.specs.Search.{answers}
+use Rattle.definition.specs.Greedy.{State}
+use Rattle.definition.specs.Search.{searched, answers}
 use Rattle.definition.specs.Recall.{nearest, hits, countOf}
 use Rattle.definition.specs.Draws.{Drawn, advance, drawn, rowsDrawn, seedsDrawn, orderDrawn, pivotsDrawn}
 use Rattle.definition.specs.Refusals.{DistanceCall, BatchCall, OpenCall, CloseCall, BuildCall, MedoidCall, SearchCall, FitCall}
@@ -27,10 +28,16 @@ use Rattle.definition.specs.Refusals.{distanceNumber, batchNumber, openN
 use Rattle.definition.specs.Refusals.{fitNumber, exhaustiveNumber, reportNumber, rowsNumber, seedsNumber, orderNumber, pivotsNumber}
 use Rattle.definition.specs.Refusals.{buildWords, buildFloats, searchWords, searchFloats, reportWords, reportFloats}
 
--- ---- answers: the number, and the field that the call fills; every other field is 0
+-- ---- answers: the number, and the fields that the call fills; every other field is 0
 
 unfoldable pub answer : ℕ → ℕ → ℕ → ℕ → Float → Answer
-answer number count id draw distance = record { number = number; count = count; id = id; draw = draw; distance = distance }
+answer number count id draw distance =
+    record { number = number; count = count; id = id; draw = draw; distance = distance; expanded = 0; measured = 0 }
+
+-- of a search: how many answers there are, how many entries were expanded, and how many distances worked out
+unfoldable pub searchAnswer : ℕ → ℕ → ℕ → Answer
+searchAnswer count expanded measured =
+    record { number = 0; count = count; id = 0; draw = 0; distance = nought; expanded = expanded; measured = measured }
 
 unfoldable pub refused : ℕ → Answer
 refused k = answer k 0 0 0 nought
@@ -178,6 +185,10 @@ medoidOut c = byNumber (medoidNumber c) (refused (medoidNumber c)) (answer 0 0 (
 unfoldable pub found : SearchCall → List Item
 found c = answers (fromQuery (c .dim) (c .vectors) (c .query)) (row (c .degree) (c .table)) (c .n) (c .beam) (c .start) (c .k)
 
+-- the state that its walk comes to
+unfoldable pub walked : SearchCall → State
+walked c = searched (fromQuery (c .dim) (c .vectors) (c .query)) (row (c .degree) (c .table)) (c .n) (c .beam) (c .start)
+
 unfoldable pub foundIds : SearchCall → List ℕ
 foundIds c = map (λ a. a .id) (found c)
 
@@ -198,9 +209,9 @@ searchKept c =
 unfoldable pub searchDone : SearchCall → SearchOut
 searchDone c =
     record {
-      answer = answer 0 (length (found c)) 0 0 nought;
+      answer = searchAnswer (length (found c)) (length (walked c .expanded)) (length (walked c .visited));
       words = cleared 0 (searchWords (c .n)) (c .words);
-      floats = cleared nought (searchFloats (c .n)) (c .floats);
+      floats = cleared nought searchFloats (c .floats);
       ids = over (foundIds c) (c .ids);
       dists = over (foundDists c) (c .dists);
     }
@@ -339,7 +350,7 @@ reportDone c =
     record {
       report = reported 0 (queryCount c) (queryCount c * askedEach c) (total (allHits c)) (countOf (askedEach c) (allHits c));
       words = cleared 0 (reportWords (c .n)) (c .words);
-      floats = cleared nought (reportFloats (c .n)) (c .floats);
+      floats = cleared nought reportFloats (c .floats);
     }
 
 unfoldable pub reportOut : ReportCall → ReportOut

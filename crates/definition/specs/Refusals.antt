@@ -78,10 +78,10 @@ unfoldable pub buildFloats : ℕ → ℕ
 buildFloats n = 4 * n + 1024
 
 unfoldable pub searchWords : ℕ → ℕ
-searchWords n = 2 * n + 256
+searchWords n = n + 512
 
-unfoldable pub searchFloats : ℕ → ℕ
-searchFloats n = n + 256
+unfoldable pub searchFloats : ℕ
+searchFloats = 512
 
 unfoldable pub mostAnswers : ℕ → ℕ → ℕ
 mostAnswers beam k = min k (max beam 1)
@@ -105,8 +105,8 @@ badQueries dim queries = not (eqb (length queries % dim) 0) || ltb 65535 (length
 unfoldable pub reportWords : ℕ → ℕ
 reportWords n = searchWords n + 512
 
-unfoldable pub reportFloats : ℕ → ℕ
-reportFloats n = searchFloats n + 512
+unfoldable pub reportFloats : ℕ
+reportFloats = searchFloats + 512
 
 -- ---- distance
 
@@ -249,7 +249,7 @@ pub record SearchCall : Type 0 where
 
 unfoldable pub searchShort : SearchCall → Bool
 searchShort c =
-    short (searchWords (c .n)) (c .words) || (short (searchFloats (c .n)) (c .floats) ||
+    short (searchWords (c .n)) (c .words) || (short searchFloats (c .floats) ||
     (short (mostAnswers (c .beam) (c .k)) (c .ids) || short (mostAnswers (c .beam) (c .k)) (c .dists)))
 
 -- `tooShort`: the answer to check 10
@@ -328,7 +328,7 @@ reportNumber c =
     4 when badBeam (c .beam) else
     6 when badStart (c .n) (c .start) else
     8 when badSearched (c .n) (c .degree) (c .table) else
-    10 when short (reportWords (c .n)) (c .words) || short (reportFloats (c .n)) (c .floats) else
+    10 when short (reportWords (c .n)) (c .words) || short reportFloats (c .floats) else
     11 when badQueries (c .dim) (c .queries) else
     14 when badK (c .k) else
     0

@@ -116,7 +116,7 @@ module _ (vs : List ℕ) where
         table = theRows;
         query = theQuery;
         words = replicate (searchWords theN) 0;
-        floats = replicate (searchFloats theN) nought;
+        floats = replicate searchFloats nought;
         ids = replicate (mostAnswers (getD vs 4 0) (getD vs 5 0)) 0;
         dists = replicate (mostAnswers (getD vs 4 0) (getD vs 5 0)) nought;
       }

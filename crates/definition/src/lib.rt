@@ -3,7 +3,8 @@
 ghost use mathlib.Core.Path.{_≡_};
 ghost use Rattle.definition.specs.Defaults.{defaults};
 
-// What every public call returns: its number, and the fields that it fills.
+// What every public call returns: its number, and the fields that it fills. A search fills the last two: how many entries' rows it walked, and how many
+// distances it worked out.
 #[repr(C)]
 pub struct Answer {
     pub number: u32,
@@ -11,6 +12,8 @@ pub struct Answer {
     pub id: u32,
     pub draw: u32,
     pub distance: f32,
+    pub expanded: usize,
+    pub measured: usize,
 }
 
 // The build parameters.

@@ -28,7 +28,7 @@ tableCall table size =
       table = table;
       query = 38 ∷ [];
       words = replicate size 7;
-      floats = replicate (searchFloats 4) nought;
+      floats = replicate searchFloats nought;
       ids = replicate (mostAnswers 2 2) 7;
       dists = replicate (mostAnswers 2 2) nought;
     }
@@ -50,17 +50,17 @@ lookups =
     -- nothing but stray words: the start is all
     case (told (lookupOut (tableCall (replicate 8 7) enough))) ((0 ∷ 1 ∷ []) ∷ (0 ∷ []) ∷ (784 ∷ []) ∷ []) ∷
     -- a word too few, also with too little scratch; too little scratch alone
-    case₁ (fields (lookupOut (tableCall (replicate 7 0) enough) .answer)) (8 ∷ 0 ∷ 0 ∷ 0 ∷ 0 ∷ []) ∷
-    case₁ (fields (lookupOut (tableCall (replicate 7 0) 7) .answer)) (8 ∷ 0 ∷ 0 ∷ 0 ∷ 0 ∷ []) ∷
-    case₁ (fields (lookupOut (tableCall strayRows 7) .answer)) (10 ∷ 0 ∷ 0 ∷ 0 ∷ 0 ∷ []) ∷
+    case₁ (fields (lookupOut (tableCall (replicate 7 0) enough) .answer)) (8 ∷ 0 ∷ 0 ∷ 0 ∷ 0 ∷ 0 ∷ 0 ∷ []) ∷
+    case₁ (fields (lookupOut (tableCall (replicate 7 0) 7) .answer)) (8 ∷ 0 ∷ 0 ∷ 0 ∷ 0 ∷ 0 ∷ 0 ∷ []) ∷
+    case₁ (fields (lookupOut (tableCall strayRows 7) .answer)) (10 ∷ 0 ∷ 0 ∷ 0 ∷ 0 ∷ 0 ∷ 0 ∷ []) ∷
     -- fit: the line; with stray words; of another degree; no entries; no degree, whatever the table; a degree over 64; n over 65,536
-    case₁ (fits 4 2 lineRows) (0 ∷ 0 ∷ 0 ∷ 0 ∷ 0 ∷ []) ∷
-    case₁ (fits 4 2 strayRows) (8 ∷ 0 ∷ 0 ∷ 0 ∷ 0 ∷ []) ∷
-    case₁ (fits 4 3 lineRows) (8 ∷ 0 ∷ 0 ∷ 0 ∷ 0 ∷ []) ∷
-    case₁ (fits 0 2 []) (2 ∷ 0 ∷ 0 ∷ 0 ∷ 0 ∷ []) ∷
-    case₁ (fits 4 0 strayRows) (3 ∷ 0 ∷ 0 ∷ 0 ∷ 0 ∷ []) ∷
-    case₁ (fits 4 65 lineRows) (3 ∷ 0 ∷ 0 ∷ 0 ∷ 0 ∷ []) ∷
-    case₁ (fits 65537 0 []) (2 ∷ 0 ∷ 0 ∷ 0 ∷ 0 ∷ []) ∷
+    case₁ (fits 4 2 lineRows) (0 ∷ 0 ∷ 0 ∷ 0 ∷ 0 ∷ 0 ∷ 0 ∷ []) ∷
+    case₁ (fits 4 2 strayRows) (8 ∷ 0 ∷ 0 ∷ 0 ∷ 0 ∷ 0 ∷ 0 ∷ []) ∷
+    case₁ (fits 4 3 lineRows) (8 ∷ 0 ∷ 0 ∷ 0 ∷ 0 ∷ 0 ∷ 0 ∷ []) ∷
+    case₁ (fits 0 2 []) (2 ∷ 0 ∷ 0 ∷ 0 ∷ 0 ∷ 0 ∷ 0 ∷ []) ∷
+    case₁ (fits 4 0 strayRows) (3 ∷ 0 ∷ 0 ∷ 0 ∷ 0 ∷ 0 ∷ 0 ∷ []) ∷
+    case₁ (fits 4 65 lineRows) (3 ∷ 0 ∷ 0 ∷ 0 ∷ 0 ∷ 0 ∷ 0 ∷ []) ∷
+    case₁ (fits 65537 0 []) (2 ∷ 0 ∷ 0 ∷ 0 ∷ 0 ∷ 0 ∷ 0 ∷ []) ∷
     []
 
 pub lookups-right : map (λ s. s .got) lookups ≡ map (λ s. s .want) lookups

@@ -49,9 +49,9 @@ unfolding add lt ofInt ofBits mul div
     Refusals.medoidNumber Refusals.searchShort Refusals.searchNumberAt Refusals.searchNumber Refusals.recordsNumber Refusals.fitNumber Refusals.exhaustiveNumber
     Refusals.reportNumber
     Refusals.rowsNumber Refusals.seedsNumber Refusals.orderNumber Refusals.pivotsNumber
-    Outcome.answer Outcome.refused Outcome.done Outcome.byNumber Outcome.distanceOut Outcome.settingOf Outcome.batchKept Outcome.batchDone
+    Outcome.answer Outcome.searchAnswer Outcome.refused Outcome.done Outcome.byNumber Outcome.distanceOut Outcome.settingOf Outcome.batchKept Outcome.batchDone
     Outcome.batchOut Outcome.openKept Outcome.openDone Outcome.openOut Outcome.closeKept Outcome.closeDone Outcome.closeOut Outcome.buildKept
-    Outcome.builtWide Outcome.buildDone Outcome.buildOut Outcome.medoidOut Outcome.found Outcome.foundIds Outcome.foundDists Outcome.searchKept
+    Outcome.builtWide Outcome.buildDone Outcome.buildOut Outcome.medoidOut Outcome.found Outcome.walked Outcome.foundIds Outcome.foundDists Outcome.searchKept
     Outcome.searchDone Outcome.searchOut Outcome.foundRecords Outcome.recordsKept Outcome.recordsDone Outcome.recordsOut Outcome.cleanedCall
     Outcome.lookupOut Outcome.fitOut Outcome.nearestTo Outcome.exhaustiveKept Outcome.exhaustiveDone Outcome.exhaustiveOut Outcome.reported
     Outcome.queryCount Outcome.askedEach Outcome.hitsAt Outcome.allHits Outcome.reportKept Outcome.reportDone Outcome.reportOut

@@ -17,7 +17,7 @@ unfoldable pub nearCall : List ℕ → List ℕ → ℕ → ℕ → ExhaustiveCa
 nearCall vectors query k room =
     record { n = 4; dim = 1; vectors = vectors; k = k; query = query; ids = replicate room 7; dists = replicate room nought }
 
--- the five fields of the answer; then all words of the two outputs
+-- the seven fields of the answer; then all words of the two outputs
 unfoldable pub toldNear : ExhaustiveOut → List (List ℕ)
 toldNear o = fields (o .answer) ∷ o .ids ∷ map asWhole (o .dists) ∷ []
 
@@ -42,7 +42,7 @@ reportCall vectors beam k queries =
       table = lineRows;
       queries = queries;
       words = replicate (reportWords 4) 7;
-      floats = replicate (reportFloats 4) nought;
+      floats = replicate reportFloats nought;
     }
 
 -- number, queries, asked, found, whole
@@ -55,15 +55,15 @@ lineReport beam k queries = counts (reportOut (reportCall line beam k queries) .
 unfoldable pub recalls : List Sample
 recalls =
     -- the line, query 25 and query 38, k 2: of equal distances the higher id first; what lies beyond the answers is untouched
-    case (lineNear 25 2 3) ((0 ∷ 2 ∷ 0 ∷ 0 ∷ 0 ∷ []) ∷ (2 ∷ 1 ∷ 7 ∷ []) ∷ (25 ∷ 25 ∷ 0 ∷ []) ∷ []) ∷
-    case (lineNear 38 2 2) ((0 ∷ 2 ∷ 0 ∷ 0 ∷ 0 ∷ []) ∷ (3 ∷ 2 ∷ []) ∷ (4 ∷ 64 ∷ []) ∷ []) ∷
+    case (lineNear 25 2 3) ((0 ∷ 2 ∷ 0 ∷ 0 ∷ 0 ∷ 0 ∷ 0 ∷ []) ∷ (2 ∷ 1 ∷ 7 ∷ []) ∷ (25 ∷ 25 ∷ 0 ∷ []) ∷ []) ∷
+    case (lineNear 38 2 2) ((0 ∷ 2 ∷ 0 ∷ 0 ∷ 0 ∷ 0 ∷ 0 ∷ []) ∷ (3 ∷ 2 ∷ []) ∷ (4 ∷ 64 ∷ []) ∷ []) ∷
     -- k above n: all four; and of equals at the cut the higher id
-    case (lineNear 25 256 4) ((0 ∷ 4 ∷ 0 ∷ 0 ∷ 0 ∷ []) ∷ (2 ∷ 1 ∷ 3 ∷ 0 ∷ []) ∷ (25 ∷ 25 ∷ 225 ∷ 225 ∷ []) ∷ []) ∷
-    case (lineNear 25 1 1) ((0 ∷ 1 ∷ 0 ∷ 0 ∷ 0 ∷ []) ∷ (2 ∷ []) ∷ (25 ∷ []) ∷ []) ∷
+    case (lineNear 25 256 4) ((0 ∷ 4 ∷ 0 ∷ 0 ∷ 0 ∷ 0 ∷ 0 ∷ []) ∷ (2 ∷ 1 ∷ 3 ∷ 0 ∷ []) ∷ (25 ∷ 25 ∷ 225 ∷ 225 ∷ []) ∷ []) ∷
+    case (lineNear 25 1 1) ((0 ∷ 1 ∷ 0 ∷ 0 ∷ 0 ∷ 0 ∷ 0 ∷ []) ∷ (2 ∷ []) ∷ (25 ∷ []) ∷ []) ∷
     -- entry 3 at 0, which a search with beam 2 misses
-    case (toldNear (exhaustiveOut (nearCall missed (25 ∷ []) 2 2))) ((0 ∷ 2 ∷ 0 ∷ 0 ∷ 0 ∷ []) ∷ (3 ∷ 2 ∷ []) ∷ (0 ∷ 25 ∷ []) ∷ []) ∷
+    case (toldNear (exhaustiveOut (nearCall missed (25 ∷ []) 2 2))) ((0 ∷ 2 ∷ 0 ∷ 0 ∷ 0 ∷ 0 ∷ 0 ∷ []) ∷ (3 ∷ 2 ∷ []) ∷ (0 ∷ 25 ∷ []) ∷ []) ∷
     -- refused, and nothing differs: 10 before 11 before 14; k 0 asks for no room
-    case (lineNear 25 2 1) ((10 ∷ 0 ∷ 0 ∷ 0 ∷ 0 ∷ []) ∷ (7 ∷ []) ∷ (0 ∷ []) ∷ []) ∷
+    case (lineNear 25 2 1) ((10 ∷ 0 ∷ 0 ∷ 0 ∷ 0 ∷ 0 ∷ 0 ∷ []) ∷ (7 ∷ []) ∷ (0 ∷ []) ∷ []) ∷
     case₁ (map exhaustiveNumber (nearCall line [] 257 3 ∷ nearCall line [] 257 4 ∷ nearCall line (25 ∷ []) 257 4 ∷ nearCall line (25 ∷ []) 0 0 ∷ []))
     (10 ∷ 11 ∷ 14 ∷ 14 ∷ []) ∷
     -- the report of queries 25 and 38, k 2: with beam 1 only the start is found, which is not asked for; with beam 4 all

@@ -18,9 +18,9 @@ use Rattle.definition.specs.checked.Builds.{shown}
 unfoldable pub asWhole : Float → ℕ
 asWhole x = toUnsigned 32 x
 
--- the number, then the other four fields of an answer
+-- the number, then the other six fields of an answer
 unfoldable pub fields : Answer → List ℕ
-fields a = a .number ∷ a .count ∷ a .id ∷ a .draw ∷ asWhole (a .distance) ∷ []
+fields a = a .number ∷ a .count ∷ a .id ∷ a .draw ∷ asWhole (a .distance) ∷ a .expanded ∷ a .measured ∷ []
 
 -- ---- distance
 
@@ -49,7 +49,7 @@ lineCall vectors query beam k =
       table = lineRows;
       query = query ∷ [];
       words = replicate (searchWords 4) 7;
-      floats = replicate (searchFloats 4) nought;
+      floats = replicate searchFloats nought;
       ids = replicate (mostAnswers beam k) 7;
       dists = replicate (mostAnswers beam k) nought;
     }
@@ -81,9 +81,9 @@ case₁ g w = case (g ∷ []) (w ∷ [])
 unfoldable pub samples : List Sample
 samples =
     -- distance of 0 and 255; 256 such samples; dim 257
-    case₁ (distanceOf (0 ∷ []) (255 ∷ [])) (0 ∷ 0 ∷ 0 ∷ 0 ∷ 65025 ∷ []) ∷
-    case₁ (distanceOf (replicate 256 0) (replicate 256 255)) (0 ∷ 0 ∷ 0 ∷ 0 ∷ 16646400 ∷ []) ∷
-    case₁ (distanceOf (replicate 257 0) (replicate 257 255)) (1 ∷ 0 ∷ 0 ∷ 0 ∷ 0 ∷ []) ∷
+    case₁ (distanceOf (0 ∷ []) (255 ∷ [])) (0 ∷ 0 ∷ 0 ∷ 0 ∷ 65025 ∷ 0 ∷ 0 ∷ []) ∷
+    case₁ (distanceOf (replicate 256 0) (replicate 256 255)) (0 ∷ 0 ∷ 0 ∷ 0 ∷ 16646400 ∷ 0 ∷ 0 ∷ []) ∷
+    case₁ (distanceOf (replicate 257 0) (replicate 257 255)) (1 ∷ 0 ∷ 0 ∷ 0 ∷ 0 ∷ 0 ∷ 0 ∷ []) ∷
     -- line, query 38: beam 2, k 2; beam 1; beam 0; beam 8, k 8
     case (lineSearch line 38 2 2) ((0 ∷ 2 ∷ []) ∷ (3 ∷ 2 ∷ []) ∷ (4 ∷ 64 ∷ []) ∷ []) ∷
     case (lineSearch line 38 1 2) ((0 ∷ 1 ∷ []) ∷ (0 ∷ []) ∷ (784 ∷ []) ∷ []) ∷
@@ -100,9 +100,9 @@ samples =
     case₁ (pruned (0 ∷ 0 ∷ 10 ∷ 0 ∷ 5 ∷ 9 ∷ []) (1 ∷ 2 ∷ []) 0x3F800000) (1 ∷ 2 ∷ []) ∷
     -- line, pivots 0, 3: scores and medoid
     case₁ (map (λ i. asWhole (score (between 1 line) (0 ∷ 3 ∷ []) i)) (0 ∷ 1 ∷ 2 ∷ 3 ∷ [])) (900 ∷ 500 ∷ 500 ∷ 900 ∷ []) ∷
-    case₁ (fields (medoidOut (record { n = 4; dim = 1; vectors = line; pivots = 0 ∷ 3 ∷ [] }))) (0 ∷ 0 ∷ 1 ∷ 0 ∷ 0 ∷ []) ∷
+    case₁ (fields (medoidOut (record { n = 4; dim = 1; vectors = line; pivots = 0 ∷ 3 ∷ [] }))) (0 ∷ 0 ∷ 1 ∷ 0 ∷ 0 ∷ 0 ∷ 0 ∷ []) ∷
     -- generator state 0: first draw below 100
-    case₁ (fields (drawOut 100 0 .answer)) (0 ∷ 0 ∷ 0 ∷ 7 ∷ 0 ∷ []) ∷
+    case₁ (fields (drawOut 100 0 .answer)) (0 ∷ 0 ∷ 0 ∷ 7 ∷ 0 ∷ 0 ∷ 0 ∷ []) ∷
     []
 
 pub samples-right : map (λ s. s .got) samples ≡ map (λ s. s .want) samples

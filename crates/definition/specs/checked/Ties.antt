@@ -32,7 +32,7 @@ tieCall beam =
       table = fromFirst;
       query = 25 ∷ [];
       words = replicate (searchWords 4) 7;
-      floats = replicate (searchFloats 4) nought;
+      floats = replicate searchFloats nought;
       ids = replicate (mostAnswers beam beam) 7;
       dists = replicate (mostAnswers beam beam) nought;
     }
@@ -51,11 +51,11 @@ ties =
     case (lineSearch alike 20 4 4) ((0 ∷ 4 ∷ []) ∷ (3 ∷ 2 ∷ 1 ∷ 0 ∷ []) ∷ (0 ∷ 0 ∷ 0 ∷ 0 ∷ []) ∷ []) ∷
     case (lineSearch alike 20 4 2) ((0 ∷ 2 ∷ []) ∷ (3 ∷ 2 ∷ []) ∷ (0 ∷ 0 ∷ []) ∷ []) ∷
     case (lineSearch alike 20 2 2) ((0 ∷ 2 ∷ []) ∷ (1 ∷ 0 ∷ []) ∷ (0 ∷ 0 ∷ []) ∷ []) ∷
-    case (toldNear (exhaustiveOut (nearCall alike (20 ∷ []) 2 2))) ((0 ∷ 2 ∷ 0 ∷ 0 ∷ 0 ∷ []) ∷ (3 ∷ 2 ∷ []) ∷ (0 ∷ 0 ∷ []) ∷ []) ∷
+    case (toldNear (exhaustiveOut (nearCall alike (20 ∷ []) 2 2))) ((0 ∷ 2 ∷ 0 ∷ 0 ∷ 0 ∷ 0 ∷ 0 ∷ []) ∷ (3 ∷ 2 ∷ []) ∷ (0 ∷ 0 ∷ []) ∷ []) ∷
     -- a full beam of 2 that a nearer entry enters keeps, of two equals, the lower id, as 000 does; exhaustive search answers with the higher
     case (told (searchOut (tieCall 2))) ((0 ∷ 2 ∷ []) ∷ (2 ∷ 0 ∷ []) ∷ (0 ∷ 25 ∷ []) ∷ []) ∷
     case (told (searchOut (tieCall 3))) ((0 ∷ 3 ∷ []) ∷ (2 ∷ 1 ∷ 0 ∷ []) ∷ (0 ∷ 25 ∷ 25 ∷ []) ∷ []) ∷
-    case (toldNear (exhaustiveOut (nearCall besides (25 ∷ []) 2 2))) ((0 ∷ 2 ∷ 0 ∷ 0 ∷ 0 ∷ []) ∷ (2 ∷ 1 ∷ []) ∷ (0 ∷ 25 ∷ []) ∷ []) ∷
+    case (toldNear (exhaustiveOut (nearCall besides (25 ∷ []) 2 2))) ((0 ∷ 2 ∷ 0 ∷ 0 ∷ 0 ∷ 0 ∷ 0 ∷ []) ∷ (2 ∷ 1 ∷ []) ∷ (0 ∷ 25 ∷ []) ∷ []) ∷
     []
 
 pub ties-right : map (λ s. s .got) ties ≡ map (λ s. s .want) ties
