@@ -61,8 +61,8 @@ pub record ReportAccepted (c : ReportCall) : Type 0 where
   pub start-in : c .start < c .n
   pub table-is : length (c .table) ≡ c .n * c .degree
   pub ruled : searchRule (c .n) (c .table) ≡ true
-  pub word-room : 2 * c .n + 768 ≤ length (c .words)
-  pub float-room : c .n + 768 ≤ length (c .floats)
+  pub word-room : c .n + 1024 ≤ length (c .words)
+  pub float-room : 1024 ≤ length (c .floats)
   pub queries-are : length (c .queries) ≡ queryCount c * c .dim
   pub queries-few : queryCount c ≤ 65535
   pub k-some : 1 ≤ c .k
@@ -77,13 +77,13 @@ queries-good dim queries e =
     let z = eqb-true (length queries % dim) 0 (not-false _ (s .0)) in
     (omega (arith, div-add-mod' (length queries) dim, z), ltb-false _ _ (s .1))
 
-report-room : (n : ℕ) (words : List ℕ) (floats : List Float) → (short (reportWords n) words || short (reportFloats n) floats) ≡ false
-    → (2 * n + 768 ≤ length words) × (n + 768 ≤ length floats)
+report-room : (n : ℕ) (words : List ℕ) (floats : List Float) → (short (reportWords n) words || short reportFloats floats) ≡ false
+    → (n + 1024 ≤ length words) × (1024 ≤ length floats)
 unfolding short reportWords reportFloats searchWords searchFloats
 report-room n words floats e =
-    let s = or-neither (ltb (length words) (2 * n + 256 + 512)) (ltb (length floats) (n + 256 + 512)) e in
-    let w = ltb-false (length words) (2 * n + 256 + 512) (s .0) in
-    let f = ltb-false (length floats) (n + 256 + 512) (s .1) in
+    let s = or-neither (ltb (length words) (n + 512 + 512)) (ltb (length floats) (512 + 512)) e in
+    let w = ltb-false (length words) (n + 512 + 512) (s .0) in
+    let f = ltb-false (length floats) (512 + 512) (s .1) in
     (omega arith, omega arith)
 
 pub report-accepted : (c : ReportCall) → reportNumber c ≡ 0 → ReportAccepted c
@@ -145,8 +145,8 @@ exhaustiveOf c query ids dists =
 module _ (c : ReportCall) (a : ReportAccepted c) (query : List ℕ) (q : length query ≡ c .dim) where
   -- outputs of 256 places are enough
   pub report-searches : (words : List ℕ) (floats : List Float) (ids : List ℕ) (dists : List Float)
-      → 2 * c .n + 256 ≤ length words
-      → c .n + 256 ≤ length floats
+      → c .n + 512 ≤ length words
+      → 512 ≤ length floats
       → 256 ≤ length ids
       → 256 ≤ length dists
       → SearchAccepted (searchOf c query words floats ids dists)

@@ -38,24 +38,24 @@ pub record SearchAccepted (c : SearchCall) : Type 0 where
   pub table-is : length (c .table) ≡ c .n * c .degree
   pub ruled : searchRule (c .n) (c .table) ≡ true
   pub rows : Searchable (c .n) (c .table)
-  pub word-room : 2 * c .n + 256 ≤ length (c .words)
-  pub float-room : c .n + 256 ≤ length (c .floats)
+  pub word-room : c .n + 512 ≤ length (c .words)
+  pub float-room : 512 ≤ length (c .floats)
   pub id-room : mostAnswers (c .beam) (c .k) ≤ length (c .ids)
   pub dist-room : mostAnswers (c .beam) (c .k) ≤ length (c .dists)
   pub query-is : length (c .query) ≡ c .dim
 
 -- check 10, of the scratch and the two outputs
 record SearchRoom (c : SearchCall) : Type 0 where
-  words : 2 * c .n + 256 ≤ length (c .words)
-  floats : c .n + 256 ≤ length (c .floats)
+  words : c .n + 512 ≤ length (c .words)
+  floats : 512 ≤ length (c .floats)
   ids : mostAnswers (c .beam) (c .k) ≤ length (c .ids)
   dists : mostAnswers (c .beam) (c .k) ≤ length (c .dists)
 
 search-room : (c : SearchCall) → searchShort c ≡ false → SearchRoom c
 unfolding searchShort short searchWords searchFloats
 search-room c e =
-    let p = or-neither (ltb (length (c .words)) (2 * c .n + 256)) _ e in
-    let q = or-neither (ltb (length (c .floats)) (c .n + 256)) _ (p .1) in
+    let p = or-neither (ltb (length (c .words)) (c .n + 512)) _ e in
+    let q = or-neither (ltb (length (c .floats)) 512) _ (p .1) in
     let r = or-neither (ltb (length (c .ids)) (mostAnswers (c .beam) (c .k))) _ (q .1) in
     record { words = ltb-false _ _ (p .0); floats = ltb-false _ _ (q .0); ids = ltb-false _ _ (r .0); dists = ltb-false _ _ (r .1) }
 
