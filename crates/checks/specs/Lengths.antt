@@ -17,7 +17,7 @@ buildShort n words floats = ltb words (buildWords n) || ltb floats (buildFloats 
 unfoldable pub searchShortBy : ℕ → ℕ → ℕ → ℕ → ℕ → ℕ → ℕ → ℕ → Bool
 searchShortBy n beam k words floats ids dists run =
     let most = mostAnswers beam k in
-    (ltb words (searchWords n) || (ltb floats (searchFloats n) || (ltb ids most || ltb dists most))) || ltb run most
+    (ltb words (searchWords n) || (ltb floats searchFloats || (ltb ids most || ltb dists most))) || ltb run most
 
 pub length-is : (n width : ℕ) (table : List ℕ) (size : ℕ) → length table ≡ size → wrongLength n width size ≡ badLength n width table
 unfolding wrongLength badLength

@@ -35,12 +35,11 @@ pub fn search_short(
     requires { ⌜ n ≤ 65536 ⌝ }
     ensures { λ r. ⌜ r ≡ searchShortBy n beam k words floats ids dists run ⌝ }
 {
-    let w = 2 * n + 256;
+    let w = n + 512;
     if words < w {
         return true;
     }
-    let f = n + 256;
-    if floats < f {
+    if floats < 512 {
         return true;
     }
     let most = most_answers(beam, k);

@@ -13,7 +13,7 @@ unfoldable pub nearestShort : ℕ → ℕ → ℕ → ℕ → Bool
 nearestShort n k ids dists = ltb ids (min k n) || ltb dists (min k n)
 
 unfoldable pub reportShort : ℕ → ℕ → ℕ → Bool
-reportShort n words floats = ltb words (reportWords n) || ltb floats (reportFloats n)
+reportShort n words floats = ltb words (reportWords n) || ltb floats reportFloats
 
 unfoldable pub wrongQueries : ℕ → ℕ → Bool
 wrongQueries dim size = not (eqb (size % dim) 0) || ltb 65535 (size / dim)
@@ -24,7 +24,7 @@ unfolding short nearestShort
 nearest-is n k is ds ids dists p q = rw (p, q) refl
 
 pub report-is : (n : ℕ) (ws : List ℕ) (fs : List Float) (words floats : ℕ) → length ws ≡ words → length fs ≡ floats
-    → (short (reportWords n) ws || short (reportFloats n) fs) ≡ reportShort n words floats
+    → (short (reportWords n) ws || short reportFloats fs) ≡ reportShort n words floats
 unfolding short reportShort
 report-is n ws fs words floats p q = rw (p, q) refl
 
@@ -33,10 +33,10 @@ unfolding badQueries wrongQueries
 queries-is dim qs size p = rw p refl
 
 -- the room of a report in one sum
-pub report-words : (n : ℕ) → reportWords n ≡ 2 * n + 768
+pub report-words : (n : ℕ) → reportWords n ≡ n + 1024
 unfolding reportWords searchWords
 report-words n = omega arith
 
-pub report-floats : (n : ℕ) → reportFloats n ≡ n + 768
+pub report-floats : reportFloats ≡ 1024
 unfolding reportFloats searchFloats
-report-floats n = omega arith
+report-floats = refl

@@ -38,12 +38,11 @@ fn report_short(n: usize, words: usize, floats: usize) -> bool
     requires { ⌜ n ≤ 65536 ⌝ }
     ensures { λ r. ⌜ r ≡ reportShort n words floats ⌝ }
 {
-    let w = 2 * n + 768;
+    let w = n + 1024;
     if words < w {
         return true;
     }
-    let f = n + 768;
-    floats < f
+    floats < 1024
 }
 
 // 11, of queries one after another.

@@ -16,8 +16,8 @@ mostBeam = 256
 abbrev pub widest : ℕ
 widest = 84
 
--- Words of a walk: the n marks from 0 on, and the mark of what is no entry. A walk that keeps what it visits has two regions more: the ids, and where a
--- search's room ends, their distances
+-- Words of a walk: the n marks from 0 on, and the mark of what is no entry. A walk that keeps what it visits, as a build's does, has two regions more: the
+-- ids, and behind a few spare words their distances
 abbrev pub strayAt : ℕ → ℕ
 strayAt n = n
 
@@ -77,16 +77,16 @@ freshEnd n = 6 * n + 32768
 
 -- where the room of a search ends, that of a report, and the floats of a batch: what of it no region has is spare
 abbrev pub searchEnd : ℕ → ℕ
-searchEnd n = 2 * n + 256
+searchEnd n = n + 512
 
-abbrev pub searchFloatsEnd : ℕ → ℕ
-searchFloatsEnd n = n + 256
+abbrev pub searchFloatsEnd : ℕ
+searchFloatsEnd = 512
 
 abbrev pub reportEnd : ℕ → ℕ
-reportEnd n = 2 * n + 768
+reportEnd n = n + 1024
 
-abbrev pub reportFloatsEnd : ℕ → ℕ
-reportFloatsEnd n = n + 768
+abbrev pub reportFloatsEnd : ℕ
+reportFloatsEnd = 1024
 
 abbrev pub floatsEnd : ℕ → ℕ
 floatsEnd n = 4 * n + 1024
@@ -117,10 +117,14 @@ pub fills-apart : (begin end : ℕ) (r : Region) (rs : List Region) → Fills be
 unfolding Fills
 fills-apart begin end r rs f s m = let q = f .0 in let l = fills-from (begin + r .size) end rs (f .1) s m in omega arith
 
+pub report-floats-end : reportFloatsEnd ≡ reportFloats
+unfolding reportFloats searchFloats
+report-floats-end = refl
+
 module _ (n : ℕ) where
   -- marks, the mark of what is no entry, spare
   abbrev pub searchWordRegions : List Region
-  searchWordRegions = lies 0 n ∷ lies (strayAt n) 1 ∷ lies (visitedAt n) (n + 255) ∷ []
+  searchWordRegions = lies 0 n ∷ lies (strayAt n) 1 ∷ lies (visitedAt n) 511 ∷ []
 
   -- while the fresh rows are made: a walk's, the visited and, behind a few spare, their distances, the pool, its stamps, its distances, spare, the fresh rows
   abbrev pub freshWordRegions : List Region
@@ -145,10 +149,6 @@ module _ (n : ℕ) where
   pub report-words-end : reportEnd n ≡ reportWords n
   unfolding reportWords searchWords
   report-words-end = omega arith
-
-  pub report-floats-end : reportFloatsEnd n ≡ reportFloats n
-  unfolding reportFloats searchFloats
-  report-floats-end = omega arith
 
   pub fresh-words-filled : Fills 0 freshWordRegions (buildWords n)
   unfolding buildWords Fills

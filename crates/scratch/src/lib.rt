@@ -4,7 +4,7 @@ ghost use Prim.Native.Nat.{_+_, _*_, _≤_, _<_};
 ghost use lib.ListN.{length, replicate};
 ghost use lib.Ieee.{ofBits, binary32};
 ghost use Rattle.scratch.specs.Layout.{visitedAt, visitedDistsAt, poolAt, stampsAt, poolDistsAt, poolEnd, headsAt, seatsAt, linksAt};
-ghost use Rattle.scratch.specs.Layout.{freshAt, freshRowAt, freshEnd, searchEnd, searchFloatsEnd, reportEnd, reportFloatsEnd, floatsEnd};
+ghost use Rattle.scratch.specs.Layout.{freshAt, freshRowAt, freshEnd, searchEnd, reportEnd, floatsEnd};
 ghost use Rattle.scratch.specs.Clear.{FrontClear, RoomClear};
 
 // The slack of the greatest degree: no row of a table has more words.
@@ -15,6 +15,11 @@ pub const FRESH_WIDTH: usize = 64;
 
 // How many factors pruning needs, from 0 on in the floats: one for each entry that its cut leaves.
 pub const FACTORS: usize = 750;
+
+// How many floats a search is lent, and a report.
+pub const SEARCH_FLOATS: usize = 512;
+
+pub const REPORT_FLOATS: usize = 1024;
 
 // Words of a walk that keeps what it visits: marks from 0, the ids, their distances.
 pub fn visited_at(n: usize) -> usize
@@ -97,34 +102,19 @@ pub fn fresh_row_at(n: usize, p: usize) -> usize
     6 * n + 16384 + 64 * p
 }
 
-// Where the room of a search ends, in words and in floats.
+// Where the words of a search end, and those of a report.
 pub fn search_end(n: usize) -> usize
     requires { ⌜ n ≤ 65536 ⌝ }
     ensures { λ r. ⌜ r ≡ searchEnd n ⌝ }
 {
-    2 * n + 256
+    n + 512
 }
 
-pub fn search_floats_end(n: usize) -> usize
-    requires { ⌜ n ≤ 65536 ⌝ }
-    ensures { λ r. ⌜ r ≡ searchFloatsEnd n ⌝ }
-{
-    n + 256
-}
-
-// Where the room of a report ends, in words and in floats.
 pub fn report_end(n: usize) -> usize
     requires { ⌜ n ≤ 65536 ⌝ }
     ensures { λ r. ⌜ r ≡ reportEnd n ⌝ }
 {
-    2 * n + 768
-}
-
-pub fn report_floats_end(n: usize) -> usize
-    requires { ⌜ n ≤ 65536 ⌝ }
-    ensures { λ r. ⌜ r ≡ reportFloatsEnd n ⌝ }
-{
-    n + 768
+    n + 1024
 }
 
 // Where the room of a batch, close or whole build ends, in words and in floats.

@@ -8,18 +8,12 @@ use borrow.Author.Tests.{lt-ltb, le-ltb}
 use Rattle.checks.proofs.rooms.search_short.Statement.{statement}
 use Rattle.checks.proofs.rooms.search_short.Tie as tie
 
-mul-w : tie.Need-mul-w
-mul-w c = search needs
-
 add-w : tie.Need-add-w
 add-w c = search needs
 
 returns : tie.Need-returns
 unfolding searchShortBy searchWords searchFloats
 returns c = rw (lt-ltb _ _ (c .if1 .taken)) refl
-
-add-f : tie.Need-add-f
-add-f c = search needs
 
 returns-2 : tie.Need-returns-2
 unfolding searchShortBy searchWords searchFloats
@@ -62,10 +56,8 @@ pub search-short-spec : {M : Type 1} → statement M
 search-short-spec =
     tie.close
     (tie.spec
-    mul-w
     add-w
     returns
-    add-f
     returns-2
     most-answers-requires
     returns-3
