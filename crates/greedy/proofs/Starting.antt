@@ -26,7 +26,7 @@ use Rattle.kept.specs.Says.{Standing as KeptStanding, standing as standing-kept
 use Rattle.kept.specs.Cases.{meets-one}
 use Rattle.kept.specs.Laws.{works-none, works-tell}
 use Rattle.greedy.specs.declared.Plan.{Plan}
-use Rattle.greedy.specs.Scratch.{fromStart, walkOf, Standing, standing, walkEnd, walk-end-least, space-kept, Ready, Room, Is, Live, Moves, Walks}
+use Rattle.greedy.specs.Scratch.{noted, fromStart, walkOf, Standing, standing, walkEnd, walk-end-least, space-kept, Ready, Room, Is, Live, Moves, Walks}
 use Rattle.greedy.specs.Cases.{expand-meets, steps-stop, steps-go, stops-empty, stops-filled, step-is, greedy-is, from-none, from-some}
 
 -- nothing is visited
@@ -53,12 +53,11 @@ module _ (d : ℕ → ℕ) (start : ℕ) where
   unfolding unvisited meet begin admitted insert place
   begun-some beam h = rw (lt-ltb 0 beam h) refl
 
-  -- with beam 0 the frontier has the start all the same, and then its row is walked
-  popped-none : (beam : ℕ) → beam ≡ 0 → (meet beam first unvisited .frontier ≡ popped (begin d beam start) .frontier)
-      × (meet beam first unvisited .work ≡ popped (begin d beam start) .work) × (meet beam first unvisited .visited ≡ popped (begin d beam start) .visited)
-  unfolding unvisited meet begin admitted popped withoutBest insertCapped beatsWorst
-  popped-none zero e = (refl, refl, refl)
-  popped-none (suc b) e = absurd (omega arith)
+  -- with beam 0 the definition's frontier has the start all the same, and then it is expanded
+  noted-none : (beam : ℕ) → beam ≡ 0 → noted start (meet beam first unvisited) ≡ popped (begin d beam start)
+  unfolding unvisited noted meet begin admitted popped best withoutBest insertCapped beatsWorst
+  noted-none zero e = refl
+  noted-none (suc b) e = absurd (omega arith)
 
   goes-none : (beam : ℕ) → beam ≡ 0 → stops beam (begin d beam start) ≡ false
   unfolding begin filled insertCapped
@@ -105,7 +104,7 @@ module _ {p : Plan} {epoch : ℕ} {words₀ : List ℕ} {e : ℕ} {keys : List �
   words₁ = set words₀ (strayAt n) e
 
   abbrev s₀ : Standing
-  s₀ = standing words₁ keys (record { visited = 0; work = w })
+  s₀ = standing words₁ keys (record { visited = 0; expanded = 0; work = w })
 
   fits : strayAt n < length words₀
   fits = stray-fits (b .room)
@@ -129,6 +128,7 @@ module _ {p : Plan} {epoch : ℕ} {words₀ : List ℕ} {e : ℕ} {keys : List �
       record {
         seen = seen-start n e words₀ below;
         count = refl;
+        expanded-count = refl;
         logged = λ _. record { ids-are = refl; dists-are = refl };
         working =
             subst (λ (z : Work). Works n beam (standing-kept keys z) [] []) (sym (b .empty)) (works-none n beam keys (s .nodes) (s .beam-le) (b .free));
@@ -146,6 +146,10 @@ module _ {p : Plan} {epoch : ℕ} {words₀ : List ℕ} {e : ℕ} {keys : List �
   module _ (d : ℕ → ℕ) {start : ℕ} (inside : start < n) {s₁ : Standing} (m : Moves p e s₀ s₁ (λ st. expand d beam st (cleaned n (start ∷ [])))) where
     met-is : Is p e s₁ (meet beam (first d start) unvisited)
     met-is = subst (Is p e s₁) (first-met d start n beam (b .room .space .nodes) inside) (m .moves unvisited start-is)
+
+    pub met-none : s₁ .counts .expanded ≡ 0
+    unfolding unvisited meet
+    met-none = sym (met-is .expanded-count)
 
     pub met-live : Live p e s₁
     met-live = record { state = meet beam (first d start) unvisited; is = met-is }
@@ -168,17 +172,6 @@ module _ {p : Plan} {epoch : ℕ} {words₀ : List ℕ} {e : ℕ} {keys : List �
           (subst (Moves p e s₁ s₂) (from-some p d table start some) q .moves begun (subst (Is p e s₁) (begun-some d start beam (omega arith)) met-is))
 
       -- with beam 0
-      popped-is : beam ≡ 0 → Is p e s₁ (popped begun)
-      unfolding visitedIds
-      popped-is z =
-          let r = popped-none d start beam z in
-          record {
-            seen = rw (← (r .2)) (met-is .seen);
-            count = rw (← (r .2)) (met-is .count);
-            logged = rw (← (r .2)) (met-is .logged);
-            working = rw (← (r .0), ← (r .1)) (met-is .working);
-          }
-
       none-ends : beam ≡ 0 → Is p e s₂ end
       none-ends z = subst (Is p e s₂) (sym same) there
         where
@@ -186,7 +179,9 @@ module _ {p : Plan} {epoch : ℕ} {words₀ : List ℕ} {e : ℕ} {keys : List �
           after = expand d beam (popped begun) (rows start)
 
           there : Is p e s₂ after
-          there = subst (Moves p e s₁ s₂) (from-none p d table start z) q .moves (popped begun) (popped-is z)
+          there =
+              subst (λ (st : State). Is p e s₂ (expand d beam st (rows start))) (noted-none d start beam z)
+              (subst (Moves p e s₁ s₂) (from-none p d table start z) q .moves (meet beam (first d start) unvisited) met-is)
 
           same : end ≡ after
           same =
@@ -198,14 +193,15 @@ module _ {p : Plan} {epoch : ℕ} {words₀ : List ℕ} {e : ℕ} {keys : List �
       ends : Is p e s₂ end
       ends = decide (eqb beam 0) (λ t. none-ends (eqb-true beam 0 t)) (λ f. some-ends (eqb-false beam 0 f))
 
-      pub walked : Walks p epoch words₀ (s₂ .words) (s₂ .keys) (record { epoch = e; visited = s₂ .counts .visited; work = s₂ .counts .work .len })
-          (walkOf p d table start)
+      pub walked : Walks p epoch words₀ (s₂ .words) (s₂ .keys)
+          (record { epoch = e; visited = s₂ .counts .visited; expanded = s₂ .counts .expanded; work = s₂ .counts .work .len }) (walkOf p d table start)
       walked =
           record {
             epoch-is = b .next;
             room = record { space = q .ready .space; marks = q .ready .marked .marks-le };
             visited-is = ends .count;
             visited-le = omega (arith, visited-most (q .ready .marked), q .ready .visited-is);
+            expanded-is = ends .expanded-count;
             logged = ends .logged;
             work-is = works-tell n beam (standing-kept (s₂ .keys) (s₂ .counts .work)) (end .frontier) (end .work) (ends .working);
             work-le = ends .working .len-le;

@@ -14,9 +14,9 @@ use Rattle.definition.specs.Greedy.{State, visitedIds, begin, meet, skipped, lo
 use Rattle.laws.specs.Backwards.{map-append}
 use Rattle.marks.specs.Marked.{news}
 use Rattle.kept.specs.Says.{meets}
-use Rattle.kept.specs.Cases.{meet-visited}
+use Rattle.kept.specs.Cases.{meet-visited, meets-expanded}
 use Rattle.greedy.specs.declared.Plan.{Plan}
-use Rattle.greedy.specs.Scratch.{fromStart}
+use Rattle.greedy.specs.Scratch.{noted, fromStart}
 
 -- ---- a row: its new ids are met, in order
 module _ (d : ℕ → ℕ) where
@@ -53,6 +53,10 @@ module _ (d : ℕ → ℕ) (beam : ℕ) where
           ≡ meets beam st (measured d (cond t (news (visitedIds st) ws) (w ∷ news (visitedIds st ++ (w ∷ [])) ws)))
       go true old new = old
       go false old new = new ∙ ap (λ (l : List ℕ). meets beam met (measured d (news l ws))) (meet-ids st w)
+
+pub expand-expanded : (d : ℕ → ℕ) (beam : ℕ) (row : List ℕ) (st : State) → expand d beam st row .expanded ≡ st .expanded
+expand-expanded d beam row st =
+    ap (λ (z : State). z .expanded) (expand-meets d beam row st) ∙ meets-expanded beam st (measured d (news (visitedIds st) row))
 
 -- ---- the steps
 pub steps-none : (d : ℕ → ℕ) (rows : ℕ → List ℕ) (beam : ℕ) (s : State) → steps d rows beam 0 s ≡ s
@@ -92,9 +96,9 @@ module _ (p : Plan) (d : ℕ → ℕ) (table : List ℕ) (start : ℕ) where
   rows = row (p .width) (cleaned (p .n) table)
 
   abbrev from : Bool → State → State
-  from t st = cond t (expand d (p .beam) st (rows start)) (steps d rows (p .beam) (p .n) st)
+  from t st = cond t (expand d (p .beam) (noted start st) (rows start)) (steps d rows (p .beam) (p .n) st)
 
-  pub from-none : p .beam ≡ 0 → fromStart p d table start ≡ (λ st. expand d (p .beam) st (rows start))
+  pub from-none : p .beam ≡ 0 → fromStart p d table start ≡ (λ st. expand d (p .beam) (noted start st) (rows start))
   unfolding fromStart
   from-none e = ap from (eq-eqb (p .beam) 0 e)
 

@@ -1,7 +1,7 @@
 -- What the words and the keys of a walk hold. Where the regions lie is said in crate scratch (Layout); what the keys say, in crate kept.
 use mathlib.Core.Path.{_≡_, ap}
 use mathlib.Core.Bool.{Bool, true, cond}
-use mathlib.Core.List.{List, _++_, map}
+use mathlib.Core.List.{List, _∷_, _++_, map}
 use Prim.Native.Nat.{ℕ, _+_, _*_, _≤_, _<_}
 use native.Mathlib.Nat.{mul-le-mul}
 use native.Mathlib.Omega.{arith}
@@ -49,11 +49,15 @@ pub record Rooms (row fresh apart : List ℕ) : Type 0 where
   pub dists-fit : length fresh ≡ length apart
   pub few : length fresh ≤ widest
 
--- what is left of a walk when its start is met: with beam 0 the start's row, and no more
+-- an entry counts as expanded
+unfoldable pub noted : ℕ → State → State
+noted id st = record { frontier = st .frontier; work = st .work; visited = st .visited; expanded = id ∷ st .expanded }
+
+-- what is left of a walk when its start is met: with beam 0 the start is expanded, and no more
 unfoldable pub fromStart : Plan → (ℕ → ℕ) → List ℕ → ℕ → State → State
 fromStart p d table start st =
     let rows = row (p .width) (cleaned (p .n) table) in
-    cond (eqb (p .beam) 0) (expand d (p .beam) st (rows start)) (steps d rows (p .beam) (p .n) st)
+    cond (eqb (p .beam) 0) (expand d (p .beam) (noted start st) (rows start)) (steps d rows (p .beam) (p .n) st)
 
 -- the state that a walk from `start` comes to, by the definition
 abbrev pub walkOf : Plan → (ℕ → ℕ) → List ℕ → ℕ → State
@@ -114,6 +118,7 @@ pub record Logged (n : ℕ) (words : List ℕ) (visited : List Item) : Type 0 wh
 pub record Is (p : Plan) (epoch : ℕ) (s : Standing) (st : State) : Type 0 where
   pub seen : Seen (p .n) epoch (s .words) (visitedIds st)
   pub count : length (st .visited) ≡ s .counts .visited
+  pub expanded-count : length (st .expanded) ≡ s .counts .expanded
   pub logged : p .keep ≡ true → Logged (p .n) (s .words) (st .visited)
   pub working : Works (p .n) (p .beam) (standing-kept (s .keys) (s .counts .work)) (st .frontier) (st .work)
 
@@ -142,6 +147,7 @@ pub record Walks (p : Plan) (epoch : ℕ) (before after keys : List ℕ) (r : Wa
   pub room : Room p (r .epoch) after
   pub visited-is : length (st .visited) ≡ r .visited
   pub visited-le : r .visited ≤ p .n
+  pub expanded-is : length (st .expanded) ≡ r .expanded
   pub logged : p .keep ≡ true → Logged (p .n) after (st .visited)
   pub work-is : Tells keys (r .work) (st .work)
   pub work-le : r .work ≤ p .beam

@@ -12,7 +12,7 @@ ghost use Rattle.definition.specs.Greedy.{expand, steps};
 ghost use Rattle.theory.specs.build.Walks.{epochEnd};
 ghost use Rattle.scratch.specs.Layout.{widest, poolAt};
 ghost use Rattle.beam.specs.Keys.{none};
-ghost use Rattle.greedy.specs.Scratch.{Measures, Ground, fromStart, walkOf, standing, Ready, Live, Room, Rooms, Keeps, Moves, Walks};
+ghost use Rattle.greedy.specs.Scratch.{Measures, Ground, noted, fromStart, walkOf, standing, Ready, Live, Room, Rooms, Keeps, Moves, Walks};
 
 // What a walk goes by: n entries of dim bytes, and rows of width words; and whether it keeps a list of all that it visits.
 pub struct Plan {
@@ -23,9 +23,10 @@ pub struct Plan {
     pub keep: bool,
 }
 
-// How many were visited, and what work has.
+// How many were visited, how many of them expanded, and what work has.
 pub struct Counts {
     pub visited: usize,
+    pub expanded: usize,
     pub work: Work,
 }
 
@@ -106,10 +107,14 @@ fn expand(
     }
     let work = kept::meet(keys, p.beam, c.work, &fresh[0..count], &apart[0..count]);
     let visited = c.visited + count;
-    Counts { visited, work }
+    Counts {
+        visited,
+        expanded: c.expanded,
+        work,
+    }
 }
 
-// The row of one entry.
+// One entry is expanded: its row is walked.
 fn step(
     words: &mut [u32],
     keys: &mut [u64],
@@ -126,15 +131,22 @@ fn step(
     requires { ⌜ Ready p epoch (standing (now words) (now keys) c) ⌝ }
     requires { ⌜ Live p epoch (standing (now words) (now keys) c) ⌝ }
     requires { ⌜ Ground p (now vectors) (now query) (now table) ⌝ }
-    requires { ⌜ (id < p .n) × (length (now fresh) ≡ widest) × (length (now apart) ≡ widest) ⌝ }
+    requires { ⌜ (id < p .n) × (c .expanded < p .n) × (length (now fresh) ≡ widest) × (length (now apart) ≡ widest) ⌝ }
     ensures { λ r. ⌜ Moves p epoch (standing (now (words .entry)) (now (keys .entry)) c) (standing (now (words .exit)) (now (keys .exit)) r)
-        (λ st. expand (fromQuery (p .dim) (now (vectors .entry)) (now (query .entry))) (p .beam) st
+        (λ st. expand (fromQuery (p .dim) (now (vectors .entry)) (now (query .entry))) (p .beam) (noted id st)
         (row (p .width) (cleaned (p .n) (now (table .entry))) id)) ⌝ }
 {
     let width = p.width;
     let from = id as usize * width;
     let to = from + width;
-    touch_next(keys, c.work, table, width, apart);
+    let work = c.work;
+    touch_next(keys, work, table, width, apart);
+    let expanded = c.expanded + 1;
+    let t = Counts {
+        visited: c.visited,
+        expanded,
+        work,
+    };
     expand(
         words,
         keys,
@@ -145,7 +157,7 @@ fn step(
         &table[from..to],
         p,
         epoch,
-        c,
+        t,
     )
 }
 
@@ -165,7 +177,7 @@ fn walk(
     requires { ⌜ Ready p epoch (standing (now words) (now keys) c) ⌝ }
     requires { ⌜ Live p epoch (standing (now words) (now keys) c) ⌝ }
     requires { ⌜ Ground p (now vectors) (now query) (now table) ⌝ }
-    requires { ⌜ (length (now fresh) ≡ widest) × (length (now apart) ≡ widest) ⌝ }
+    requires { ⌜ (c .expanded ≡ 0) × (length (now fresh) ≡ widest) × (length (now apart) ≡ widest) ⌝ }
     ensures { λ r. ⌜ Moves p epoch (standing (now (words .entry)) (now (keys .entry)) c) (standing (now (words .exit)) (now (keys .exit)) r)
         (λ st. steps (fromQuery (p .dim) (now (vectors .entry)) (now (query .entry)))
         (row (p .width) (cleaned (p .n) (now (table .entry)))) (p .beam) (p .n) st) ⌝ }
@@ -179,6 +191,7 @@ fn walk(
         }
         let t = Counts {
             visited: s.visited,
+            expanded: s.expanded,
             work: Work {
                 len: s.work.len,
                 done: next.done,
@@ -220,7 +233,7 @@ fn from_start(
     requires { ⌜ Ready p epoch (standing (now words) (now keys) c) ⌝ }
     requires { ⌜ Live p epoch (standing (now words) (now keys) c) ⌝ }
     requires { ⌜ Ground p (now vectors) (now query) (now table) ⌝ }
-    requires { ⌜ (start < p .n) × (length (now fresh) ≡ widest) × (length (now apart) ≡ widest) ⌝ }
+    requires { ⌜ (start < p .n) × (c .expanded ≡ 0) × (length (now fresh) ≡ widest) × (length (now apart) ≡ widest) ⌝ }
     ensures { λ r. ⌜ Moves p epoch (standing (now (words .entry)) (now (keys .entry)) c) (standing (now (words .exit)) (now (keys .exit)) r)
         (fromStart p (fromQuery (p .dim) (now (vectors .entry)) (now (query .entry))) (now (table .entry)) start) ⌝ }
 {
@@ -253,10 +266,11 @@ fn from_start(
     )
 }
 
-// What a walk leaves: the epoch, and how many it visited and kept.
+// What a walk leaves: the epoch, and how many it visited, expanded and kept.
 pub struct Walked {
     pub epoch: u32,
     pub visited: usize,
+    pub expanded: usize,
     pub work: usize,
 }
 
@@ -285,7 +299,11 @@ pub fn greedy(
     let e = marks::next_epoch(epoch);
     words[n] = e;
     let work = kept::empty(p.beam);
-    let none = Counts { visited: 0, work };
+    let none = Counts {
+        visited: 0,
+        expanded: 0,
+        work,
+    };
     let c = expand(
         words,
         keys,
@@ -314,6 +332,7 @@ pub fn greedy(
     Walked {
         epoch: e,
         visited: s.visited,
+        expanded: s.expanded,
         work: s.work.len,
     }
 }

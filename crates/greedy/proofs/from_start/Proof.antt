@@ -1,5 +1,6 @@
 -- `from_start`, by its two cases.
 use mathlib.Core.Path.{sym, subst}
+use native.Mathlib.Omega.{arith}
 use borrow.Author.Needs.{needs}
 use Rattle.greedy.specs.Scratch.{Moves}
 use Rattle.greedy.specs.Cases.{from-none, from-some}
@@ -7,7 +8,10 @@ use Rattle.greedy.proofs.from_start.Statement.{statement}
 use Rattle.greedy.proofs.from_start.Tie as tie
 
 step-requires : tie.Need-step-requires
-step-requires c κs = search needs
+step-requires c κs =
+    let s = c .before .before .before .before .before .before .before .before .before .before .before .before .before in
+    let rooms = s .pre .1 .1 .1 in
+    (s .pre .0, (s .pre .1 .0, (s .pre .1 .1 .0, (rooms .0, omega arith, rooms .2, rooms .3))))
 
 same-length : tie.Need-same-length
 same-length c = search needs
@@ -31,7 +35,7 @@ walk-requires : tie.Need-walk-requires
 walk-requires c κs =
     let s = c .before .before .before .before .before .before .before .before .before .before .before .before .before in
     let rooms = s .pre .1 .1 .1 in
-    (s .pre .0, (s .pre .1 .0, (s .pre .1 .1 .0, (rooms .1, rooms .2))))
+    (s .pre .0, (s .pre .1 .0, (s .pre .1 .1 .0, (rooms .1, rooms .2, rooms .3))))
 
 same-length-5 : tie.Need-same-length-5
 same-length-5 c = search needs
