@@ -8,18 +8,18 @@ use native.Mathlib.Omega.{arith}
 use lib.ListN.{length, drop}
 use Rattle.definition.specs.Metric.{fromQuery}
 use Rattle.definition.specs.Tables.{cleaned}
-use Rattle.definition.specs.Floats.{nought}
+use Rattle.definition.specs.Greedy.{State}
 use Rattle.definition.specs.Search.{ranked}
-use Rattle.definition.specs.Outcome.{answer, searchDone}
+use Rattle.definition.specs.Outcome.{searchAnswer, found, walked, foundIds, foundDists, searchDone}
 use Rattle.definition.specs.Refusals.{SearchCall, searchWords, mostAnswers}
 use Rattle.laws.specs.Parts.{Within, within-wider}
 use Rattle.laws.specs.Filled.{cleared-same}
 use Rattle.laws.specs.Cleaned.{length-cleaned}
 use Rattle.scratch.specs.Lent.{Lent, lent}
-use Rattle.scratch.specs.Layout.{searchEnd, searchFloatsEnd}
+use Rattle.scratch.specs.Layout.{visitedAt, searchEnd, searchFloatsEnd}
 use Rattle.beam.specs.Keys.{Rising}
 use Rattle.theory.specs.build.Walks.{epochEnd}
-use Rattle.marks.specs.Marked.{FirstEpoch}
+use Rattle.marks.specs.Marked.{Marks, FirstEpoch}
 use Rattle.marks.specs.Visits.{first-then}
 use Rattle.kept.specs.Says.{Tells}
 use Rattle.greedy.specs.declared.Plan.{Plan}
@@ -27,14 +27,16 @@ use Rattle.greedy.specs.declared.Walked.{Walked}
 use Rattle.greedy.specs.Scratch.{Ground, walkOf, walkEnd, Room, Walks}
 use Rattle.accepted.specs.Search.{SearchAccepted as Accepted}
 use Rattle.listing.specs.Listed.{Pairs, pairs, itemsIn, Listed}
-use Rattle.search.specs.Answering.{Wiped, stateOf, found-count, found-ids, found-dists}
-use Rattle.search.specs.Statement.{outOf, Searched}
+use Rattle.search.specs.declared.Found.{Found}
+use Rattle.search.specs.Answering.{Wiped, Walkable, onWords, accepted-walkable, Answered, stateOf, walked-is, found-count, found-ids, found-dists}
+use Rattle.search.specs.Statement.{outOf, answerOf, Searched}
 
 -- the plan of the walk, whose beam is b
 abbrev pub planOf : SearchCall → ℕ → Plan
 planOf c b = record { n = c .n; dim = c .dim; width = c .degree; beam = b; keep = false }
 
-module _ (c : SearchCall) (a : Accepted c) (table : List ℕ) (table-is : c .table ≡ cleaned (c .n) table) where
+-- ---- one walk
+module _ (c : SearchCall) (a : Walkable c) (table : List ℕ) (table-is : c .table ≡ cleaned (c .n) table) where
   pub start-ground : (b : ℕ) → Ground (planOf c b) (c .vectors) (c .query) table
   start-ground b =
       record {
@@ -43,34 +45,23 @@ module _ (c : SearchCall) (a : Accepted c) (table : List ℕ) (table-is : c .tab
         narrow = omega (arith, a .degree-few);
       }
 
-  -- the marks were cleared
-  module _ (marked : List ℕ) (epoch : ℕ) (first : FirstEpoch (c .n) (c .words) marked epoch) (b : ℕ) (b-is : b ≡ max (c .beam) 1) where
+  module _ (epoch : ℕ) (marks : Marks (c .n) (c .words) epoch) (b : ℕ) (b-is : b ≡ max (c .beam) 1) where
     abbrev n : ℕ
     n = c .n
 
-    -- ---- the walk may begin
-    pub start-room : (epoch + 1 < epochEnd) × Room (planOf c b) epoch marked
+    -- it may begin
+    pub start-room : Room (planOf c b) epoch (c .words)
     unfolding walkEnd
-    start-room = (
-      omega (arith, first .is),
-      record {
-        space = record { nodes = a .nodes; room = omega (arith, a .word-room, first .kept .size); beam-le = omega (arith, a .beam-few) };
-        marks = first .marks;
-      },
-    )
+    start-room = record { space = record { nodes = a .nodes; room = a .word-room; beam-le = omega (arith, a .beam-few) }; marks = marks }
 
     module _ (after keys : List ℕ) (r : Walked)
-        (walks : Walks (planOf c b) epoch marked after keys r (walkOf (planOf c b) (fromQuery (c .dim) (c .vectors) (c .query)) table (c .start)))
+        (walks : Walks (planOf c b) epoch (c .words) after keys r (walkOf (planOf c b) (fromQuery (c .dim) (c .vectors) (c .query)) table (c .start)))
         (count : ℕ) (count-is : count ≡ min (c .k) (r .work)) where
-      kept : Within 0 (searchEnd n) (c .words) after
-      unfolding walkEnd
-      kept = first-then first (searchEnd n) (omega arith) (within-wider 0 _ _ _ (walks .words-kept) 0 (searchEnd n) zero-le (omega arith))
-
-      -- ---- the answers may be listed, and the room wiped
       few : count ≤ mostAnswers (c .beam) (c .k)
       unfolding mostAnswers
       few = omega (arith, walks .work-le)
 
+      -- its answers may be listed
       pub list-room : (size : length keys ≡ 256)
           → Rising keys × ((count ≤ r .work) × (r .work ≤ length keys) × (count ≤ length (c .ids)) × (count ≤ length (c .dists)))
       list-room size = (
@@ -78,30 +69,62 @@ module _ (c : SearchCall) (a : Accepted c) (table : List ℕ) (table-is : c .tab
         (omega arith, omega (arith, walks .work-le, a .beam-few), omega (arith, few, a .id-room), omega (arith, few, a .dist-room)),
       )
 
-      pub wipe-room : (n ≤ 65536) × (searchEnd n ≤ length after) × (searchFloatsEnd n ≤ length (c .floats))
-      wipe-room = (a .nodes, omega (arith, kept .size, a .word-room), omega (arith, a .float-room))
+      -- the state that it comes to is the definition's
+      state-is : walkOf (planOf c b) (fromQuery (c .dim) (c .vectors) (c .query)) table (c .start) ≡ stateOf c
+      state-is = rw (b-is, ← table-is) refl
 
-      -- ---- what is left
       told : Tells keys (r .work) (stateOf c .work)
-      told = rw (b-is, ← table-is) at (walks .work-is)
+      told = rw state-is at (walks .work-is)
 
-      beyond-words : drop (searchWords n) after ≡ drop (searchWords n) (c .words)
-      unfolding searchWords
-      beyond-words = kept .above
+      -- and those are its counts
+      module _ (outs : Pairs) (l : Listed (ranked count (itemsIn keys (r .work))) (pairs (c .ids) (c .dists)) outs) where
+        pub answered : Answered c epoch after outs (record { epoch = r .epoch; count = count; expanded = r .expanded; measured = r .visited })
+        unfolding walkEnd
+        answered =
+            let end = state-is ∙ sym (walked-is c) in
+            record {
+              epoch-is = walks .epoch-is;
+              count-is = found-count c keys (r .work) told count count-is;
+              few = few;
+              expanded-is = sym (walks .expanded-is) ∙ ap (λ (s : State). length (s .expanded)) end;
+              measured-is = sym (walks .visited-is) ∙ ap (λ (s : State). length (s .visited)) end;
+              ids-are = found-ids c keys (r .work) told count count-is outs l;
+              dists-are = found-dists c keys (r .work) told count count-is outs l;
+              marks = walks .room .marks;
+              kept = walks .words-kept;
+            }
 
-      module _ (outs : Pairs) (l : Listed (ranked count (itemsIn keys (r .work))) (pairs (c .ids) (c .dists)) outs)
-          (left : Lent) (z : Wiped n (lent after (c .floats)) left) where
-        done-is : outOf (answer 0 count 0 0 nought) (left .words) (left .floats) (outs .ids) (outs .dists) ≡ searchDone c
-        unfolding searchDone
-        done-is =
-            rw (
-              found-count c keys (r .work) told count count-is,
-              z .words-are ∙ cleared-same 0 (searchWords n) after (c .words) beyond-words,
-              z .floats-are,
-              found-ids c keys (r .work) told count count-is outs l,
-              found-dists c keys (r .work) told count count-is outs l,
-            ) refl
+-- ---- a whole lookup: the marks were cleared
+module _ (c : SearchCall) (a : Accepted c) (marked : List ℕ) (epoch : ℕ) (first : FirstEpoch (c .n) (c .words) marked epoch) where
+  pub walk-room : Walkable (onWords c marked) × ((epoch + 1 < epochEnd) × Marks (c .n) marked epoch)
+  walk-room = (accepted-walkable c a marked (omega (arith, a .word-room, first .kept .size)), (omega (arith, first .is), first .marks))
 
-        pub done : Searched c (outOf (answer 0 count 0 0 nought) (left .words) (left .floats) (outs .ids) (outs .dists))
-        unfolding answer
-        done = record { is = done-is; few = few }
+  module _ (after : List ℕ) (outs : Pairs) (r : Found) (w : Answered (onWords c marked) epoch after outs r) where
+    kept : Within 0 (searchEnd (c .n)) (c .words) after
+    kept =
+        first-then first (searchEnd (c .n)) (omega arith) (within-wider 0 (visitedAt (c .n)) marked after (w .kept) 0 (searchEnd (c .n)) zero-le (omega arith))
+
+    pub wipe-room : (c .n ≤ 65536) × (searchEnd (c .n) ≤ length after) × (searchFloatsEnd ≤ length (c .floats))
+    wipe-room = (a .nodes, omega (arith, kept .size, a .word-room), a .float-room)
+
+    beyond-words : drop (searchWords (c .n)) after ≡ drop (searchWords (c .n)) (c .words)
+    unfolding searchWords
+    beyond-words = kept .above
+
+    module _ (left : Lent) (z : Wiped (c .n) (lent after (c .floats)) left) where
+      done-is : outOf (answerOf r) (left .words) (left .floats) (outs .ids) (outs .dists) ≡ searchDone c
+      unfolding searchDone found walked foundIds foundDists
+      done-is =
+          rw (
+            w .count-is,
+            w .expanded-is,
+            w .measured-is,
+            z .words-are ∙ cleared-same 0 (searchWords (c .n)) after (c .words) beyond-words,
+            z .floats-are,
+            w .ids-are,
+            w .dists-are,
+          ) refl
+
+      pub done : Searched c (outOf (answerOf r) (left .words) (left .floats) (outs .ids) (outs .dists))
+      unfolding searchAnswer
+      done = record { is = done-is; few = w .few }

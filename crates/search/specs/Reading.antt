@@ -9,7 +9,7 @@ use Rattle.definition.specs.Lists.{over}
 use Rattle.definition.specs.Metric.{whole}
 use Rattle.definition.specs.Beam.{Item}
 use Rattle.definition.specs.Refusals.{SearchCall, searchNumber}
-use Rattle.definition.specs.Outcome.{SearchOut, SearchMeets, found, foundIds, foundDists, byNumber, searchOut, searchKept, searchDone, refused, answer}
+use Rattle.definition.specs.Outcome.{SearchOut, SearchMeets, found, foundIds, foundDists, byNumber, searchOut, searchKept, searchDone, searchAnswer, refused, answer}
 use Rattle.laws.specs.Mapped.{map-at}
 use Rattle.accepted.specs.Outcomes.{said-number}
 
@@ -20,14 +20,14 @@ front-at f items rest i d e h = List·getD-append (map f items) rest d i (omega 
 
 module _ (c : SearchCall) (o : SearchOut) (m : SearchMeets c o) where
   pub number-is : o .answer .number ≡ searchNumber c
-  unfolding searchOut searchKept searchDone refused answer
+  unfolding searchOut searchKept searchDone searchAnswer refused answer
   number-is =
       ap (λ (a : Answer). a .number) (m .answer-is)
       ∙ said-number (searchKept c) (searchDone c) (λ (p : SearchOut). p .answer .number) (searchNumber c) refl refl
 
   module _ (z : searchNumber c ≡ 0) where
     pub count-is : o .answer .count ≡ length (found c)
-    unfolding searchOut byNumber searchDone answer
+    unfolding searchOut byNumber searchDone searchAnswer
     count-is = rw z at (ap (λ (a : Answer). a .count) (m .answer-is))
 
     pub ids-are : o .ids ≡ over (map (λ (a : Item). a .id) (found c)) (c .ids)

@@ -6,13 +6,18 @@ use lib.Ieee.{Float}
 use lib.ListN.{length}
 use Rattle.definition.specs.declared.Answer.{Answer}
 use Rattle.definition.specs.Refusals.{SearchCall, mostAnswers, searchNumber}
-use Rattle.definition.specs.Outcome.{refused, searchKept, searchDone, searchOut, SearchMeets, SearchOut, cleanedCall, lookupOut, LookupMeets}
+use Rattle.definition.specs.Outcome.{searchAnswer, refused, searchKept, searchDone, searchOut, SearchMeets, SearchOut, cleanedCall, lookupOut, LookupMeets}
 use Rattle.accepted.specs.Outcomes.{by-refusal, by-success}
 use Rattle.accepted.specs.Search.{SearchAccepted as Accepted, accepted-at, cleaned-call}
 use Rattle.checks_number.specs.SearchNumber.{SearchNumbered, plain}
+use Rattle.search.specs.declared.Found.{Found}
 
 abbrev pub outOf : Answer → List ℕ → List Float → List ℕ → List Float → SearchOut
 outOf a words floats ids dists = record { answer = a; words = words; floats = floats; ids = ids; dists = dists }
+
+-- the answer that a walk's counts make
+abbrev pub answerOf : Found → Answer
+answerOf r = searchAnswer (r .count) (r .expanded) (r .measured)
 
 -- an accepted search
 pub record Searched (c : SearchCall) (o : SearchOut) : Type 0 where

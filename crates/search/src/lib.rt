@@ -4,16 +4,19 @@
 use definition::Answer;
 use greedy::Plan;
 ghost use mathlib.Core.Path.{_≡_};
-ghost use Prim.Native.Nat.{_≤_, max};
+ghost use mathlib.Core.List.{[]};
+ghost use Prim.Native.Nat.{_+_, _≤_, _<_, max};
 ghost use lib.ListN.{length};
-ghost use Rattle.definition.specs.Floats.{nought};
-ghost use Rattle.definition.specs.Outcome.{answer, SearchMeets, cleanedCall, LookupMeets, fitOut};
+ghost use Rattle.definition.specs.Outcome.{SearchMeets, cleanedCall, LookupMeets, fitOut};
+ghost use Rattle.theory.specs.build.Walks.{epochEnd};
 ghost use Rattle.scratch.specs.Lent.{lent};
 ghost use Rattle.scratch.specs.Layout.{searchEnd, searchFloatsEnd};
 ghost use Rattle.accepted.specs.Search.{SearchAccepted as Accepted};
 ghost use Rattle.checks_number.specs.SearchNumber.{callOf};
-ghost use Rattle.search.specs.Answering.{Wiped};
-ghost use Rattle.search.specs.Statement.{outOf, Searched};
+ghost use Rattle.marks.specs.Marked.{Marks};
+ghost use Rattle.listing.specs.Listed.{pairs};
+ghost use Rattle.search.specs.Answering.{Wiped, Walkable, Answered};
+ghost use Rattle.search.specs.Statement.{outOf, answerOf, Searched};
 
 // At least 1.
 fn raised(beam: usize) -> usize
@@ -25,18 +28,69 @@ fn raised(beam: usize) -> usize
     beam
 }
 
+// What a walk gives: the epoch that it came to, how many answers there are, and how many entries it expanded and measured.
+pub struct Found {
+    pub epoch: u32,
+    pub count: usize,
+    pub expanded: usize,
+    pub measured: usize,
+}
+
+// One walk and its answers, for a caller who holds the proof that it may be made: no check, and nothing is cleared. The marks must be at most `epoch`, and are
+// left so for the epoch that the walk comes to: so one walk may follow another. The walk reads a word that is no entry as padding.
+pub fn walk_answers(
+    n: usize,
+    dim: usize,
+    vectors: &[u8],
+    degree: usize,
+    beam: usize,
+    k: usize,
+    start: u32,
+    table: &[u32],
+    query: &[u8],
+    epoch: u32,
+    words: &mut [u32],
+    ids: &mut [u32],
+    dists: &mut [f32],
+) -> Found
+    requires { ⌜ Walkable (cleanedCall (callOf n dim (now vectors) degree beam k start (now table) (now query) (now words) [] (now ids) (now dists))) ⌝ }
+    requires { ⌜ (epoch + 1 < epochEnd) × Marks n (now words) epoch ⌝ }
+    ensures { λ r. ⌜ Answered
+        (cleanedCall (callOf n dim (now (vectors .entry)) degree beam k start (now (table .entry)) (now (query .entry))
+        (now (words .entry)) [] (now (ids .entry)) (now (dists .entry))))
+        epoch (now (words .exit)) (pairs (now (ids .exit)) (now (dists .exit))) r ⌝ }
+{
+    let mut keys = [beam::NONE; 256];
+    let most = raised(beam);
+    let p = Plan {
+        n,
+        dim,
+        width: degree,
+        beam: most,
+        keep: false,
+    };
+    let walked = greedy::greedy(words, &mut keys, vectors, query, table, p, epoch, start);
+    let count = laws::least(k, walked.work);
+    listing::list_answers(&keys, walked.work, count, ids, dists);
+    Found {
+        epoch: walked.epoch,
+        count,
+        expanded: walked.expanded,
+        measured: walked.visited,
+    }
+}
+
 // The stated room becomes zero.
 fn wipe(words: &mut [u32], floats: &mut [f32], n: usize)
-    requires { ⌜ (n ≤ 65536) × (searchEnd n ≤ length (now words)) × (searchFloatsEnd n ≤ length (now floats)) ⌝ }
+    requires { ⌜ (n ≤ 65536) × (searchEnd n ≤ length (now words)) × (searchFloatsEnd ≤ length (now floats)) ⌝ }
     ensures { λ _. ⌜ Wiped n (lent (now (words .entry)) (now (floats .entry))) (lent (now (words .exit)) (now (floats .exit))) ⌝ }
 {
     let w = scratch::search_end(n);
-    let f = scratch::search_floats_end(n);
-    scratch::clear_front(words, floats, w, f);
+    scratch::clear_front(words, floats, w, scratch::SEARCH_FLOATS);
 }
 
-// A lookup that no check refuses, for a caller who holds the proof of it: no check is made, and no pass over the table. The walk reads a word that is no entry
-// as padding. It gives how many answers there are and no more: a record that goes back through three calls costs each of them stack.
+// A lookup that no check refuses, for a caller who holds the proof of it: no check is made, and no pass over the table. The marks are cleared before the walk,
+// since what is lent may hold anything, and the room after it.
 pub fn lookup_accepted(
     n: usize,
     dim: usize,
@@ -51,29 +105,32 @@ pub fn lookup_accepted(
     floats: &mut [f32],
     ids: &mut [u32],
     dists: &mut [f32],
-) -> usize
+) -> Found
     requires { ⌜ Accepted (cleanedCall
         (callOf n dim (now vectors) degree beam k start (now table) (now query) (now words) (now floats) (now ids) (now dists))) ⌝ }
     ensures { λ r. ⌜ Searched
         (cleanedCall (callOf n dim (now (vectors .entry)) degree beam k start (now (table .entry)) (now (query .entry))
         (now (words .entry)) (now (floats .entry)) (now (ids .entry)) (now (dists .entry))))
-        (outOf (answer 0 r 0 0 nought) (now (words .exit)) (now (floats .exit)) (now (ids .exit)) (now (dists .exit))) ⌝ }
+        (outOf (answerOf r) (now (words .exit)) (now (floats .exit)) (now (ids .exit)) (now (dists .exit))) ⌝ }
 {
-    let mut keys = [beam::NONE; 256];
-    let most = raised(beam);
-    let p = Plan {
+    let epoch = marks::first_epoch(words, n);
+    let found = walk_answers(
         n,
         dim,
-        width: degree,
-        beam: most,
-        keep: false,
-    };
-    let epoch = marks::first_epoch(words, n);
-    let walked = greedy::greedy(words, &mut keys, vectors, query, table, p, epoch, start);
-    let count = laws::least(k, walked.work);
-    listing::list_answers(&keys, walked.work, count, ids, dists);
+        vectors,
+        degree,
+        beam,
+        k,
+        start,
+        table,
+        query,
+        epoch,
+        words,
+        ids,
+        dists,
+    );
     wipe(words, floats, n);
-    count
+    found
 }
 
 // A search that no check refuses: its table keeps the search rule, so that it is the lookup.
@@ -98,7 +155,7 @@ pub fn search_accepted(
         (now (words .entry)) (now (floats .entry)) (now (ids .entry)) (now (dists .entry)))
         (outOf r (now (words .exit)) (now (floats .exit)) (now (ids .exit)) (now (dists .exit))) ⌝ }
 {
-    let count = lookup_accepted(
+    let found = lookup_accepted(
         n,
         dim,
         vectors,
@@ -113,7 +170,7 @@ pub fn search_accepted(
         ids,
         dists,
     );
-    answers::found(count)
+    answers::searched(found.count, found.expanded, found.measured)
 }
 
 // The answers of a search in `ids` and `dists`, best first, and how many they are; or the number of the refusal, which is known from lengths and from what is
@@ -240,7 +297,7 @@ pub fn lookup(
     if refusal != 0 {
         return answers::refused(refusal);
     }
-    let count = lookup_accepted(
+    let found = lookup_accepted(
         n,
         dim,
         vectors,
@@ -255,7 +312,7 @@ pub fn lookup(
         ids,
         dists,
     );
-    answers::found(count)
+    answers::searched(found.count, found.expanded, found.measured)
 }
 
 // The number that a search would give for its table: a table that is searched many times is asked once, and `lookup` then answers as `search` does.

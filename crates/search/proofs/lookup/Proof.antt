@@ -34,8 +34,8 @@ lookup-accepted-requires c κs =
     let s = n .before .before .before .before .before .before .before .before in
     beside-accepted (asked s) _ _ (n .lookup-number .ensures) (c .before .before .before .before .if1 .left) .0
 
-found-requires : tie.Need-found-requires
-found-requires c κs = search needs
+searched-requires : tie.Need-searched-requires
+searched-requires c κs = search needs
 
 same-length : tie.Need-same-length
 same-length c = search needs
@@ -57,7 +57,7 @@ returns-2 c =
     let s = n .before .before .before .before .before .before .before .before in
     lookup-meets _ _
     (search-done (asked s) _ (n .lookup-number .ensures) (k .before .before .before .before .before .if1 .left) _
-    (searched-same (c .found .ensures) (k .lookup-accepted .ensures)))
+    (searched-same (c .searched .ensures) (k .lookup-accepted .ensures)))
 
 pub lookup-spec : {M : Type 1} → statement M
 lookup-spec =
@@ -67,7 +67,7 @@ lookup-spec =
     refused-requires
     returns
     lookup-accepted-requires
-    found-requires
+    searched-requires
     same-length
     same-length-2
     same-length-3

@@ -18,8 +18,8 @@ lookup-accepted-requires c κs =
     let s = c .before .before .before .before .before .before .before .before .before .before .before in
     cleaned-accepted (asked s) (s .pre)
 
-found-requires : tie.Need-found-requires
-found-requires c κs = search needs
+searched-requires : tie.Need-searched-requires
+searched-requires c κs = search needs
 
 same-length : tie.Need-same-length
 same-length c = search needs
@@ -37,14 +37,14 @@ returns : tie.Need-returns
 returns c =
     let l = c .before .before .before .before .before .before .before .before .before in
     let s = l .before .before .before .before .before .before .before .before .before .before .before .before in
-    searched-same (c .found .ensures) (cleaned-searched (asked s) (s .pre) _ (l .lookup-accepted .ensures))
+    searched-same (c .searched .ensures) (cleaned-searched (asked s) (s .pre) _ (l .lookup-accepted .ensures))
 
 pub search-accepted-spec : {M : Type 1} → statement M
 search-accepted-spec =
     tie.close
     (tie.spec
     lookup-accepted-requires
-    found-requires
+    searched-requires
     same-length
     same-length-2
     same-length-3

@@ -7,9 +7,6 @@ use Rattle.search.proofs.wipe.Tie as tie
 search-end-requires : tie.Need-search-end-requires
 search-end-requires c κs = search needs
 
-search-floats-end-requires : tie.Need-search-floats-end-requires
-search-floats-end-requires c κs = search needs
-
 clear-front-requires : tie.Need-clear-front-requires
 clear-front-requires c κs = search needs
 
@@ -22,15 +19,13 @@ same-length-2 c = search needs
 returns : tie.Need-returns
 returns c =
     let k = c .before .before .before .before in
-    let o = k .before .before .before in
-    wiped _ _ _ (rw (o .before .search-end .ensures, o .search-floats-end .ensures) at (k .clear-front .ensures))
+    wiped _ _ _ (rw (k .before .before .before .search-end .ensures) at (k .clear-front .ensures))
 
 pub wipe-spec : {M : Type 1} → statement M
 wipe-spec =
     tie.close
     (tie.spec
     search-end-requires
-    search-floats-end-requires
     clear-front-requires
     same-length
     same-length-2
