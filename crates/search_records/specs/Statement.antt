@@ -12,7 +12,7 @@ use Rattle.definition.specs.Metric.{whole}
 use Rattle.definition.specs.Beam.{Item, item}
 use Rattle.definition.specs.declared.Answer.{Answer}
 use Rattle.definition.specs.Refusals.{SearchCall, recordsNumber}
-use Rattle.definition.specs.Outcome.{answer, refused, found, foundIds, foundDists, foundRecords, searchDone, SearchOut, RecordsOut, recordsKept, recordsDone, recordsOut, RecordsMeets}
+use Rattle.definition.specs.Outcome.{searchAnswer, refused, found, foundIds, foundDists, foundRecords, searchDone, SearchOut, RecordsOut, recordsKept, recordsDone, recordsOut, RecordsMeets}
 use Rattle.accepted.specs.Outcomes.{by-refusal, by-success}
 use Rattle.checks_number.specs.SearchNumber.{with-records}
 use Rattle.laws.specs.Mapped.{map-at}
@@ -40,12 +40,12 @@ module _ (c : SearchCall) (rs : List Candidate) where
   meets o q = record { plain-is = ap (λ (x : RecordsOut). x .plain) q; records-are = ap (λ (x : RecordsOut). x .records) q }
 
   run-done : length (found c) ≤ length rs → byCount (searchDone c) rs ≡ recordsDone c rs .records
-  unfolding searchDone recordsDone over foundIds foundDists foundRecords answer
+  unfolding searchDone recordsDone over foundIds foundDists foundRecords searchAnswer
   run-done fits = copied-found (found c) (drop (length (foundIds c)) (c .ids)) (drop (length (foundDists c)) (c .dists)) rs fits ∙ ap (λ (m : ℕ). foundRecords c ++ drop m rs) (sym (length-map (found c) record-of))
 
   -- the answers stand in both outputs
   in-outputs : (o : SearchOut) → o ≡ searchDone c → (o .answer .count ≤ length (o .ids)) × (o .answer .count ≤ length (o .dists))
-  unfolding searchDone answer over foundIds foundDists
+  unfolding searchDone searchAnswer over foundIds foundDists
   in-outputs o e = (
     subst (λ (x : SearchOut). x .answer .count ≤ length (x .ids)) (sym e) (omega (arith, length-append (foundIds c) (drop (length (foundIds c)) (c .ids)), length-map (found c) (λ a. a .id))),
     subst (λ (x : SearchOut). x .answer .count ≤ length (x .dists)) (sym e) (omega (arith, length-append (foundDists c) (drop (length (foundDists c)) (c .dists)), length-map (found c) (λ a. whole (a .dist)))),
@@ -71,7 +71,7 @@ module _ (c : SearchCall) (rs : List Candidate) where
 
       -- and gives what is stated
       pub records-done : (run : List Candidate) → run ≡ byCount o rs → RecordsMeets c rs (record { plain = o; records = run })
-      unfolding recordsOut recordsDone searchDone answer
+      unfolding recordsOut recordsDone searchDone searchAnswer
       records-done run e =
           let fits : length (found c) ≤ length rs = subst (λ (x : SearchOut). x .answer .count ≤ length rs) (s .is) (in-all .0) in
           meets _

@@ -71,8 +71,8 @@ module _ {vs vectors query words : List ℕ} {floats : List Float} {ids : List �
       let n = n-few (theN vs) (theDim vs) (dim-good (theDim vs) a .0) (l .vectors-few) in
       let most = mostAnswers (getD vs 4 0) (getD vs 5 0) in
       let m : most ≤ 256 = most-few (getD vs 4 0) (getD vs 5 0) (beam-good (getD vs 4 0) h) in
-      let words-few = short-none (2 * theN vs + 256) words (omega (arith, n, room .words-room)) in
-      let floats-few = short-none (theN vs + 256) floats (omega (arith, n, room .floats-room)) in
+      let words-few = short-none (theN vs + 512) words (omega (arith, n, room .words-room)) in
+      let floats-few = short-none 512 floats (room .floats-room) in
       let ids-few = short-none most ids (omega (arith, m, room .ids-room)) in
       let dists-few = short-none most dists (omega (arith, m, room .ids-room, room .dists-room)) in
       rw (words-few, floats-few, ids-few, dists-few) refl

@@ -34,8 +34,8 @@ pub fn print_answer(text: &[u8], count: usize)
     let mut vals = [0u32; 65536];
     let mut vectors = [0u8; 4096];
     let mut query = [0u8; 4096];
-    let mut words = [0u32; 8448];
-    let mut floats = [0.0f32; 4352];
+    let mut words = [0u32; 4608];
+    let mut floats = [0.0f32; 512];
     let mut ids = [0u32; 256];
     let mut dists = [0.0f32; 256];
     let mut out = [0u8; 10816];
