@@ -18,6 +18,8 @@ fn say_answer(a: Answer) {
     say_field(a.id as u64);
     say_field(a.draw as u64);
     say_field(float_word(a.distance) as u64);
+    say_field(a.expanded as u64);
+    say_field(a.measured as u64);
 }
 
 fn say_sum(words: &[u32]) {

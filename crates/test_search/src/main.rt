@@ -1,5 +1,6 @@
-// The searches of 01's samples, and lookups of the line with stray words, with what each leaves: its number and count, the answers' ids, whether their
-// distances are the stated ones, the sum of the words in the room and of those beyond it (7 each as lent), and the id after the answers (9 as lent).
+// The searches of 01's samples, and lookups of the line with stray words, with what each leaves: its number and count, how many entries it expanded and
+// measured, the answers' ids, whether their distances are the stated ones, the sum of the words in the room and of those beyond it (7 each as lent), and the
+// id after the answers (9 as lent).
 
 use definition::Answer;
 use laws::least;
@@ -56,14 +57,18 @@ fn sum_between(words: &[u32], from: usize, to: usize) -> u64 {
 fn say_found(a: Answer, words: &[u32], ids: &[u32], dists: &[f32], stated: &[f32]) {
     say_field(a.number as u64);
     say_field(a.count as u64);
+    say(b"expanded ");
+    say_field(a.expanded as u64);
+    say(b"measured ");
+    say_field(a.measured as u64);
     say(b"ids ");
     say_ids(ids, a.count);
     say(b"distances as stated ");
     say_field(agreeing(dists, a.count, stated) as u64);
     say(b"room ");
-    say_field(sum_between(words, 0, 264));
+    say_field(sum_between(words, 0, 516));
     say(b"beyond ");
-    say_field(sum_between(words, 264, 300));
+    say_field(sum_between(words, 516, 560));
     say(b"next id ");
     say_next(ids, a.count);
     say(b"\n");
@@ -72,8 +77,8 @@ fn say_found(a: Answer, words: &[u32], ids: &[u32], dists: &[f32], stated: &[f32
 // A search of four entries of one byte by two words each, from entry 0.
 fn show_search(vectors: &[u8], table: &[u32], query: u8, beam: usize, k: usize, stated: &[f32]) {
     let asked = [query];
-    let mut words = [7u32; 300];
-    let mut floats = [7.0f32; 300];
+    let mut words = [7u32; 560];
+    let mut floats = [7.0f32; 520];
     let mut ids = [9u32; 9];
     let mut dists = [9.0f32; 9];
     let a = search::search(
@@ -97,8 +102,8 @@ fn show_search(vectors: &[u8], table: &[u32], query: u8, beam: usize, k: usize, 
 // The same as a lookup.
 fn show_lookup(vectors: &[u8], table: &[u32], query: u8, beam: usize, k: usize, stated: &[f32]) {
     let asked = [query];
-    let mut words = [7u32; 300];
-    let mut floats = [7.0f32; 300];
+    let mut words = [7u32; 560];
+    let mut floats = [7.0f32; 520];
     let mut ids = [9u32; 9];
     let mut dists = [9.0f32; 9];
     let a = search::lookup(
