@@ -6,7 +6,7 @@ use mathlib.Core.List.{List}
 use Rattle.definition.specs.declared.Candidate.{Candidate}
 use Rattle.definition.specs.Search.{searched, answers}
 use Rattle.definition.specs.Refusals.{SearchCall, searchNumber, searchNumberAt, searchShort, recordsNumber, badBeam, mostAnswers}
-use Rattle.definition.specs.Outcome.{found, foundIds, foundDists, foundRecords, searchOut, searchKept, searchDone, recordsOut, recordsKept, recordsDone}
+use Rattle.definition.specs.Outcome.{found, walked, foundIds, foundDists, foundRecords, searchOut, searchKept, searchDone, recordsOut, recordsKept, recordsDone}
 use Rattle.definition.specs.Outcome.{cleanedCall, lookupOut}
 
 -- the call with another beam
@@ -29,7 +29,7 @@ withBeam beam c =
     }
 
 pub search-beam-zero : (c : SearchCall) → c .beam ≡ 0 → searchOut c ≡ searchOut (withBeam 1 c)
-unfolding searchOut searchKept searchDone searchNumber searchNumberAt searchShort badBeam mostAnswers found foundIds foundDists answers searched
+unfolding searchOut searchKept searchDone searchNumber searchNumberAt searchShort badBeam mostAnswers found walked foundIds foundDists answers searched
 search-beam-zero c e = ap (λ (b : ℕ). searchOut (withBeam b c)) e
 
 pub lookup-beam-zero : (c : SearchCall) → c .beam ≡ 0 → lookupOut c ≡ lookupOut (withBeam 1 c)
@@ -38,5 +38,5 @@ lookup-beam-zero c e = search-beam-zero (cleanedCall c) e
 
 pub records-beam-zero : (c : SearchCall) (records : List Candidate) → c .beam ≡ 0 → recordsOut c records ≡ recordsOut (withBeam 1 c) records
 unfolding recordsOut recordsKept recordsDone searchDone recordsNumber searchNumberAt searchShort badBeam mostAnswers
-    found foundIds foundDists foundRecords answers searched
+    found walked foundIds foundDists foundRecords answers searched
 records-beam-zero c records e = ap (λ (b : ℕ). recordsOut (withBeam b c) records) e

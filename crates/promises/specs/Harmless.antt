@@ -3,7 +3,7 @@
 -- They are two of a kind: of a row a search reads only the ids, each at its first place, and not the row's own.
 use Prim.Native.Nat.{ℕ, _<_}
 use native.Mathlib.Omega.{arith}
-use mathlib.Core.Path.{_≡_, refl, sym, ap, _∙_}
+use mathlib.Core.Path.{_≡_, refl, sym, ap, ap₂, _∙_}
 use mathlib.Core.Logic.{_≢_}
 use mathlib.Core.Bool.{Bool, false}
 use mathlib.Core.List.{List, [], _∷_, map, List·Memᴰ as Mem}
@@ -18,7 +18,7 @@ use Rattle.definition.specs.Greedy.{State}
 use Rattle.definition.specs.Search.{listedFirst, ranked, searched, answers}
 use Rattle.definition.specs.Refusals.{badSearched, searchWords, searchFloats}
 use Rattle.definition.specs.Refusals.{SearchCall, searchNumber, searchNumberAt, searchShort, recordsNumber}
-use Rattle.definition.specs.Outcome.{answer, found, foundIds, foundDists, foundRecords}
+use Rattle.definition.specs.Outcome.{searchAnswer, found, walked, foundIds, foundDists, foundRecords}
 use Rattle.definition.specs.Outcome.{searchOut, searchKept, searchDone, recordsOut, recordsKept, recordsDone}
 use Rattle.laws.specs.Places.{tableOf-mem}
 use Rattle.laws.specs.Tables.{row-length, row-mem, row-tableOf, table-length, length-padded, ids-few}
@@ -57,21 +57,25 @@ pub record ReadAlike (c : SearchCall) (table : List ℕ) : Type 0 where
   pub alike : (i : ℕ) → i < c .n → readOf i (rowsOf c i) ≡ readOf i (row (c .degree) table i)
 
 module _ (c : SearchCall) (table : List ℕ) (r : ReadAlike c table) where
+  walked-reads : SearchAccepted c → walked c ≡ walked (withTable table c)
+  unfolding walked searched
+  walked-reads a = greedy-alike (ground c a) (row (c .degree) table) (r .alike)
+
   pub found-reads : SearchAccepted c → found c ≡ found (withTable table c)
-  unfolding found answers ranked searched
-  found-reads a = ap (λ (s : State). take (c .k) (sort listedFirst (s .work))) (greedy-alike (ground c a) (row (c .degree) table) (r .alike))
+  unfolding found answers ranked walked
+  found-reads a = ap (λ (s : State). take (c .k) (sort listedFirst (s .work))) (walked-reads a)
 
   done-alike : SearchAccepted c → searchDone c ≡ searchDone (withTable table c)
   unfolding searchDone foundIds foundDists
   done-alike a =
-      ap (λ (l : List Item).
+      ap₂ (λ (l : List Item) (s : State).
       record {
-        answer = answer 0 (length l) 0 0 nought;
+        answer = searchAnswer (length l) (length (s .expanded)) (length (s .visited));
         words = cleared 0 (searchWords (c .n)) (c .words);
-        floats = cleared nought (searchFloats (c .n)) (c .floats);
+        floats = cleared nought searchFloats (c .floats);
         ids = over (map (λ x. x .id) l) (c .ids);
         dists = over (map (λ x. whole (x .dist)) l) (c .dists);
-      }) (found-reads a)
+      }) (found-reads a) (walked-reads a)
 
   number-alike : (tooShort : Bool) → SearchAccepted c → searchNumberAt tooShort c ≡ searchNumberAt tooShort (withTable table c)
   unfolding searchNumberAt

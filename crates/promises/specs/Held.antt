@@ -16,7 +16,7 @@ use Rattle.definition.specs.Metric.{whole}
 use Rattle.definition.specs.Floats.{nought}
 use Rattle.definition.specs.Beam.{Item, nobody}
 use Rattle.definition.specs.Refusals.{SearchCall, searchNumber, recordsNumber}
-use Rattle.definition.specs.Outcome.{answer, refused, found, foundIds, foundDists, foundRecords}
+use Rattle.definition.specs.Outcome.{answer, searchAnswer, refused, found, foundIds, foundDists, foundRecords}
 use Rattle.definition.specs.Outcome.{SearchOut, SearchMeets, searchOut, searchKept, searchDone}
 use Rattle.definition.specs.Outcome.{RecordsOut, RecordsMeets, recordsOut, recordsKept, recordsDone}
 use Rattle.whole.specs.Whole.{nought-whole}
@@ -115,7 +115,7 @@ module _ (c : SearchCall) (a : SearchAccepted c) (ids : List ℕ) (dists : List 
 
 -- what a search leaves that is done: beyond the answers lies what was lent
 done-held : (c : SearchCall) → SearchAccepted c → Held c (searchDone c .answer .count) (searchDone c .ids) (searchDone c .dists)
-unfolding searchDone answer foundIds foundDists
+unfolding searchDone searchAnswer foundIds foundDists
 done-held c a =
     held c a (over (foundIds c) (c .ids)) (over (foundDists c) (c .dists)) (length (found c)) refl
     (over-front (foundIds c) (c .ids) (length (found c)) (length-map (found c) (λ (x : Item). x .id)))
@@ -138,7 +138,7 @@ pub record RecordsHeld (c : SearchCall) (o : RecordsOut) : Type 0 where
   pub run : Held c (o .plain .answer .count) (map (λ r. r .id) (o .records)) (map (λ r. r .distance) (o .records))
 
 done-run : (c : SearchCall) (rs : List Candidate) → SearchAccepted c → RecordsHeld c (recordsDone c rs)
-unfolding recordsDone searchDone answer foundRecords foundIds foundDists
+unfolding recordsDone searchDone searchAnswer foundRecords foundIds foundDists
 done-run c rs a =
     record {
       outputs = done-held c a;

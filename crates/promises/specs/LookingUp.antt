@@ -15,7 +15,7 @@ use Rattle.definition.specs.Lists.{keep, onceOnly}
 use Rattle.definition.specs.Tables.{pad, row, ids, searchRule, cleaned}
 use Rattle.definition.specs.Refusals.{SearchCall, searchNumber, searchNumberAt, searchShort, _when_else_, badDim, badVectors, badDegree, badBeam, badStart}
 use Rattle.definition.specs.Refusals.{badLength, badSearched}
-use Rattle.definition.specs.Outcome.{answer, refused, SearchOut, searchOut, searchKept, searchDone, cleanedCall, lookupOut, LookupMeets}
+use Rattle.definition.specs.Outcome.{answer, searchAnswer, refused, SearchOut, searchOut, searchKept, searchDone, cleanedCall, lookupOut, LookupMeets}
 use Rattle.laws.specs.Truth.{decide, is-not}
 use Rattle.laws.specs.Members.{keep-mem, mem-keep}
 use Rattle.laws.specs.Cleaned.{length-cleaned, row-cleaned}
@@ -47,7 +47,7 @@ unfolding searchNumber searchNumberAt searchShort cleanedCall lookupNumber
 lookup-number c = rw (cleaned-searched (c .n) (c .degree) (c .table)) refl
 
 pub lookup-says : (c : SearchCall) (o : SearchOut) → LookupMeets c o → o .answer .number ≡ lookupNumber c
-unfolding lookupOut searchOut searchKept searchDone refused answer
+unfolding lookupOut searchOut searchKept searchDone refused answer searchAnswer
 lookup-says c o m =
     let d = cleanedCall c in
     ap (λ (p : SearchOut). p .answer .number) (lookup-is m)
