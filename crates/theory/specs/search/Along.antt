@@ -17,7 +17,7 @@ use Rattle.laws.specs.Truth.{not-both}
 use Rattle.laws.specs.Members.{cons-elim, snoc-elim, isIn-mem, isIn-none}
 use Rattle.laws.specs.Apart.{nobody, another}
 use Rattle.laws.specs.Sorting.{Ordered, none, more, ordered-front, ordered-across}
-use Rattle.laws.specs.Items.{idsOf, id-in, ids-elim, ids-snoc, worse-order, best-last, best-in}
+use Rattle.laws.specs.Items.{idsOf, id-in, ids-elim, ids-within, ids-snoc, worse-order, best-last, best-in}
 use Rattle.laws.specs.Inserts.{capped-room}
 use Rattle.theory.specs.search.Tells.{Reachable, from-start}
 use Rattle.theory.specs.search.Ground.{Ground}
@@ -78,11 +78,13 @@ module _ (g : Ground) where
   unfolding meet
   look-expanded s w = look-cases (λ t. t .expanded ≡ s .expanded) s w (λ h. refl) (λ p q. refl)
 
+  look-stays : (s : State) (w : ℕ) (c : Item) → Mem c (s .visited) → Mem c (look d beam s w .visited)
+  unfolding meet
+  look-stays s w c m = look-cases (λ t. Mem c (t .visited)) s w (λ h. m) (λ p q. in-front (item (d w) w ∷ []) m)
+
   pub look-grows : (s : State) (w i : ℕ) → Mem i (visitedIds s) → Mem i (visitedIds (look d beam s w))
-  unfolding meet visitedIds
-  look-grows s w i m =
-      look-cases (λ t. Mem i (visitedIds t)) s w (λ h. m)
-      (λ p q. subst (λ (l : List ℕ). Mem i l) (sym (ids-snoc (s .visited) (item (d w) w))) (in-front (w ∷ []) m))
+  unfolding visitedIds
+  look-grows s w = ids-within (s .visited) (look d beam s w .visited) (look-stays s w)
 
   pub look-visits : (s : State) (w : ℕ) → w ≢ pad → Mem w (visitedIds (look d beam s w))
   unfolding meet visitedIds
@@ -101,10 +103,14 @@ module _ (g : Ground) where
   expand-expanded [] s = refl
   expand-expanded (w ∷ ws) s = expand-expanded ws (look d beam s w) ∙ look-expanded s w
 
-  expand-grows : (ws : List ℕ) (s : State) (i : ℕ) → Mem i (visitedIds s) → Mem i (visitedIds (expand d beam s ws))
+  expand-stays : (ws : List ℕ) (s : State) (c : Item) → Mem c (s .visited) → Mem c (expand d beam s ws .visited)
   unfolding expand
-  expand-grows [] s i m = m
-  expand-grows (w ∷ ws) s i m = expand-grows ws (look d beam s w) i (look-grows s w i m)
+  expand-stays [] s c m = m
+  expand-stays (w ∷ ws) s c m = expand-stays ws (look d beam s w) c (look-stays s w c m)
+
+  expand-grows : (ws : List ℕ) (s : State) (i : ℕ) → Mem i (visitedIds s) → Mem i (visitedIds (expand d beam s ws))
+  unfolding visitedIds
+  expand-grows ws s = ids-within (s .visited) (expand d beam s ws .visited) (expand-stays ws s)
 
   expand-visits : (ws : List ℕ) (s : State) (i : ℕ) → Mem i ws → i ≢ pad → Mem i (visitedIds (expand d beam s ws))
   unfolding expand
@@ -204,9 +210,17 @@ module _ (g : Ground) where
       go e w on-row no-pad (inl p) = expand-visits (rows (best (s .frontier) .id)) (popped s) w (subst (λ (i : ℕ). Mem w (rows i)) p on-row) no-pad
       go e w on-row no-pad (inr m) = expand-grows (rows (best (s .frontier) .id)) (popped s) w (v .walked e w m on-row no-pad)
 
-  pub step-expanded : (s : State) → length (step d rows beam s .expanded) ≡ suc (length (s .expanded))
+  -- what was visited stays so; the best of the frontier is expanded, and nobody else
+  pub step-stays : (s : State) (c : Item) → Mem c (s .visited) → Mem c (step d rows beam s .visited)
   unfolding step popped
-  step-expanded s = ap (λ (l : List ℕ). length l) (expand-expanded (rows (best (s .frontier) .id)) (popped s))
+  step-stays s = expand-stays (rows (best (s .frontier) .id)) (popped s)
+
+  pub step-expands : (s : State) → step d rows beam s .expanded ≡ best (s .frontier) .id ∷ s .expanded
+  unfolding step popped
+  step-expands s = expand-expanded (rows (best (s .frontier) .id)) (popped s)
+
+  pub step-expanded : (s : State) → length (step d rows beam s .expanded) ≡ suc (length (s .expanded))
+  step-expanded s = ap (λ (l : List ℕ). length l) (step-expands s)
 
   -- ---- the beginning
 

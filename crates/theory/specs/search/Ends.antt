@@ -1,8 +1,9 @@
 -- Each step of a greedy search expands another entry, so n steps are enough for n entries: every search stops, for any beam, 0 included, over any distance
--- and any rows of ids below n and padding. So the definition's fuel never runs out, and its steps are 000's loop.
-use Prim.Native.Nat.{ℕ, zero, suc, _+_, _≤_, _<_}
+-- and any rows of ids below n and padding. So the definition's fuel never runs out, and its steps are 000's loop. And what each step keeps, the steps keep.
+use Prim.Native.Nat.{ℕ, zero, suc, _+_, _-_, _≤_, _<_}
+use native.Mathlib.Nat.{zero-add, suc-add}
 use native.Mathlib.Omega.{arith}
-use mathlib.Core.Path.{_≡_, refl, ap, _∙_}
+use mathlib.Core.Path.{_≡_, refl, sym, ap, _∙_}
 use mathlib.Core.Logic.{_≢_}
 use mathlib.Core.Bool.{Bool, true, false, _||_, cond}
 use mathlib.Core.List.{List, List·Memᴰ as Mem}
@@ -10,12 +11,13 @@ use borrow.Author.Tests.{eqb-false}
 use lib.Dec.{eqb}
 use lib.ListN.{length}
 use Rattle.definition.specs.Tables.{pad}
+use Rattle.definition.specs.Beam.{Item}
 use Rattle.definition.specs.Greedy.{State, visitedIds, begin, popped, step, stops, filled, steps, greedy}
 use Rattle.laws.specs.Truth.{branch}
 use Rattle.laws.specs.Apart.{apart-below}
 use Rattle.laws.specs.Items.{ids-elim}
 use Rattle.theory.specs.search.Ground.{Ground}
-use Rattle.theory.specs.search.Along.{Kept, Invariant, popped-keeps, step-keeps, step-expanded, begin-keeps}
+use Rattle.theory.specs.search.Along.{Kept, Invariant, popped-keeps, step-keeps, step-stays, step-expanded, begin-keeps}
 
 module _ (g : Ground) where
   open Ground g using (d, rows, n, beam, start)
@@ -39,6 +41,24 @@ module _ (g : Ground) where
       go false p true q = stop (ap (λ (t : Bool). t || filled beam s) p ∙ q)
       go false p false q =
           let some : length (s .frontier) ≢ 0 = eqb-false (length (s .frontier)) 0 p in on (ap (λ (t : Bool). t || filled beam s) p ∙ q) (omega arith)
+
+  -- ---- what each step keeps, any number of steps keeps: the invariant, and what was visited
+
+  pub steps-keep : (P : State → Type 0) → ((s : State) → stops beam s ≡ false → 0 < length (s .frontier) → Invariant g s → P s → P (step d rows beam s))
+      → (fuel : ℕ) (s : State) → Invariant g s → P s → P (steps d rows beam fuel s)
+  unfolding steps
+  steps-keep P keeps zero s v p = p
+  steps-keep P keeps (suc fuel) s v p =
+      stops-cases (λ b. P (cond b s (steps d rows beam fuel (step d rows beam s)))) s (λ e. p)
+      (λ e some. steps-keep P keeps fuel (step d rows beam s) (step-keeps g s some v) (keeps s e some v p))
+
+  pub begun-keeps : (k : ℕ) → Invariant g (steps d rows beam k (begin d beam start))
+  begun-keeps k = steps-keep (Invariant g) (λ s e some v p. step-keeps g s some v) k (begin d beam start) (begin-keeps g) (begin-keeps g)
+
+  pub steps-stay : (fuel : ℕ) (s : State) → Invariant g s → (c : Item) → Mem c (s .visited) → Mem c (steps d rows beam fuel s .visited)
+  steps-stay fuel s v c m = steps-keep (λ t. Mem c (t .visited)) (λ t e some k. step-stays g t c) fuel s v m
+
+  -- ---- the end
 
   pub record Done (s : State) : Type 0 where
     pub invariant : Invariant g s
@@ -78,15 +98,19 @@ module _ (d : ℕ → ℕ) (rows : ℕ → List ℕ) (beam : ℕ) where
   still s e zero = refl
   still s e (suc fuel) = rw e refl
 
-  longer : (k fuel : ℕ) (s : State) → stops beam (steps d rows beam k s) ≡ true → k ≤ fuel → steps d rows beam fuel s ≡ steps d rows beam k s
+  -- k steps, and then the others
+  pub steps-add : (k more : ℕ) (s : State) → steps d rows beam (k + more) s ≡ steps d rows beam more (steps d rows beam k s)
   unfolding steps
-  longer zero fuel s e h = still s e fuel
-  longer (suc k) zero s e h = absurd (omega arith)
-  longer (suc k) (suc fuel) s e h =
-      (branch (λ (t : State). stops beam t ≡ true → cond (stops beam s) s (steps d rows beam fuel (step d rows beam s)) ≡ t) (stops beam s) (λ t q. rw t refl)
-      (λ f q. rw f (longer k fuel (step d rows beam s) q (omega arith)))) e
+  steps-add zero more s = rw (zero-add more) refl
+  steps-add (suc k) more s =
+      rw (suc-add k more)
+      (branch (λ (t : State). cond (stops beam s) s (steps d rows beam (k + more) (step d rows beam s)) ≡ steps d rows beam more t) (stops beam s)
+      (λ e. rw e (sym (still s e more))) (λ e. rw e (steps-add k more (step d rows beam s))))
 
 pub greedy-enough : (d : ℕ → ℕ) (rows : ℕ → List ℕ) (n beam start : ℕ) → start < n → ((i w : ℕ) → i < n → Mem w (rows i) → w ≢ pad → w < n)
     → (fuel : ℕ) → n ≤ fuel → steps d rows beam fuel (begin d beam start) ≡ greedy d rows n beam start
 unfolding greedy
-greedy-enough d rows n beam start starts good fuel h = longer d rows beam n fuel (begin d beam start) (greedy-ends d rows n beam start starts good) h
+greedy-enough d rows n beam start starts good fuel h =
+    let parts : fuel ≡ n + (fuel - n) = omega arith in
+    ap (λ (k : ℕ). steps d rows beam k (begin d beam start)) parts ∙ steps-add d rows beam n (fuel - n) (begin d beam start)
+    ∙ still d rows beam (greedy d rows n beam start) (greedy-ends d rows n beam start starts good) (fuel - n)

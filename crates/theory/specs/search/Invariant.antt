@@ -63,6 +63,12 @@ insert-old : (c x : Item) (xs : List Item) → Mem x xs → Mem x (insert c xs)
 unfolding insert
 insert-old c x xs m = mem-place worse c xs (inr m)
 
+-- a full work whose worst has left for c: shut to x, if neither c nor one of the others is farther
+pub shut-insert : {beam : ℕ} (c x : Item) (vs : List Item) → beam ≤ suc (length vs) → c .dist ≤ x .dist → ((u : Item) → Mem u vs → u .dist ≤ x .dist)
+    → Shut beam (insert c vs) x
+shut-insert c x vs size near others =
+    record { full = omega (arith, length-insert c vs); no-farther = insert-elim (λ u. u .dist ≤ x .dist) c vs others near }
+
 module _ (visited : List Item) (expanded : List ℕ) (c : Item) (new : ¬ Mem (c .id) (idsOf visited)) where
   insert-ordered : (xs : List Item) → ((x : Item) → Mem x xs → Mem x visited) → Ordered worse xs → Ordered worse (insert c xs)
   unfolding insert
@@ -148,11 +154,7 @@ module _ (visited : List Item) (expanded : List ℕ) (c : Item) (new : ¬ Mem (c
       }
     where
       shut : (x : Item) → v .dist ≤ x .dist → Shut beam (insert c vs) x
-      shut x far =
-          record {
-            full = omega (arith, length-insert c vs);
-            no-farther = insert-elim (λ u. u .dist ≤ x .dist) c vs (λ u m. omega (arith, worst-first (h .sorted) u (there m))) (omega arith);
-          }
+      shut x far = shut-insert c x vs (omega arith) (omega arith) (λ u m. omega (arith, worst-first (h .sorted) u (there m)))
 
       go : (x : Item) → Mem x (v ∷ vs) ⊎ Shut beam (v ∷ vs) x → Mem x (insert c vs) ⊎ Shut beam (insert c vs) x
       go x (inl m) = at (cases m)
