@@ -179,15 +179,22 @@ best-last l h = sym (take-length l) ∙ ap (λ (k : ℕ). take k l) e ∙ take-s
 pub best-in : (l : List Item) → 0 < length l → Mem (best l) l
 best-in l h = subst (λ (k : List Item). Mem (best l) k) (sym (best-last l h)) (in-back (withoutBest l) (here refl))
 
-pub best-nearest : (l : List Item) → Ordered worse l → (c : Item) → Mem c l → best l .dist ≤ c .dist
-best-nearest l o c m =
-    snoc-elim (λ x. best l .dist ≤ x .dist) (withoutBest l) (best l)
-    (λ x h. worse-dist x (best l)
-    (ordered-across (withoutBest l) (best l ∷ []) (subst (λ (k : List Item). Ordered worse k) parts o) x (best l) h (here refl))) (omega arith) c
+-- all others stand before it
+pub best-after : (l : List Item) → Ordered worse l → (c : Item) → Mem c l → (worse c (best l) ≡ true) ⊎ (c ≡ best l)
+best-after l o c m =
+    snoc-elim (λ x. (worse x (best l) ≡ true) ⊎ (x ≡ best l)) (withoutBest l) (best l)
+    (λ x h. inl (ordered-across (withoutBest l) (best l ∷ []) (subst (λ (k : List Item). Ordered worse k) parts o) x (best l) h (here refl))) (inr refl) c
     (subst (λ (k : List Item). Mem c k) parts m)
   where
     parts : l ≡ withoutBest l ++ (best l ∷ [])
     parts = best-last l (mem-length m)
+
+pub best-nearest : (l : List Item) → Ordered worse l → (c : Item) → Mem c l → best l .dist ≤ c .dist
+best-nearest l o c m = go (best-after l o c m)
+  where
+    go : (worse c (best l) ≡ true) ⊎ (c ≡ best l) → best l .dist ≤ c .dist
+    go (inl e) = worse-dist c (best l) e
+    go (inr e) = omega (arith, ap (λ (x : Item). x .dist) e)
 
 -- a bound on all is one on the best, also of none
 pub best-most : (l : List Item) (m : ℕ) → ((c : Item) → Mem c l → c .dist ≤ m) → best l .dist ≤ m
