@@ -5,7 +5,7 @@ use native.Mathlib.Nat.{zero-add, suc-add}
 use native.Mathlib.Omega.{arith}
 use mathlib.Core.Path.{_≡_, refl, sym, ap, _∙_}
 use mathlib.Core.Logic.{_≢_}
-use mathlib.Core.Bool.{Bool, true, false, _||_, cond}
+use mathlib.Core.Bool.{Bool, true, false, _||_, cond, true≢false}
 use mathlib.Core.List.{List, List·Memᴰ as Mem}
 use borrow.Author.Tests.{eqb-false}
 use lib.Dec.{eqb}
@@ -41,6 +41,9 @@ module _ (g : Ground) where
       go false p true q = stop (ap (λ (t : Bool). t || filled beam s) p ∙ q)
       go false p false q =
           let some : length (s .frontier) ≢ 0 = eqb-false (length (s .frontier)) 0 p in on (ap (λ (t : Bool). t || filled beam s) p ∙ q) (omega arith)
+
+  pub on-waits : (s : State) → stops beam s ≡ false → 0 < length (s .frontier)
+  on-waits s on = stops-cases (λ b. b ≡ false → 0 < length (s .frontier)) s (λ e f. absurd (true≢false f)) (λ e some f. some) on
 
   -- ---- what each step keeps, any number of steps keeps: the invariant, and what was visited
 

@@ -1,24 +1,24 @@
 -- An entry that has left a full beam is never expanded, over any distance and any rows. A full work changes only by its worst leaving for a nearer one, so
 -- that it stays shut to all that it is shut to. And a step is made only while the best of the frontier is strictly nearer than the worst of a full work.
--- The beam is not 0: with beam 0 the start is expanded although work never holds it.
+-- So a step expands one of work. The beam is not 0: with beam 0 the start is expanded although work never holds it.
 use Prim.Native.Nat.{ℕ, _<_}
 use native.Mathlib.Omega.{arith}
 use mathlib.Core.Path.{_≡_, refl, sym, ap, subst}
 use mathlib.Core.Logic.{_⊎_, inl, inr}
-use mathlib.Core.Bool.{false, not, _&&_, cond}
+use mathlib.Core.Bool.{true, false, not, _&&_, cond}
 use mathlib.Core.List.{List, [], _∷_, List·Memᴰ as Mem, List·Memᴰ·head as here, List·Memᴰ·tail as there, List·Memᴰ·cases-cons as cases}
 use borrow.Author.Tests.{ltb-true, lt-ltb, le-ltb, le-leb, not-false}
 use lib.Dec.{leb, ltb, eqb}
 use lib.ListN.{length}
-use Rattle.definition.specs.Beam.{Item, item, insertCapped, best, beatsWorst}
+use Rattle.definition.specs.Beam.{Item, item, worse, insertCapped, best, beatsWorst}
 use Rattle.definition.specs.Greedy.{State, admitted, meet, look, expand, popped, step, filled, stops, steps}
 use Rattle.laws.specs.Truth.{branch, or-neither}
-use Rattle.laws.specs.Items.{best-in}
+use Rattle.laws.specs.Items.{best-in, best-after}
 use Rattle.laws.specs.Inserts.{capped-nearer}
 use Rattle.theory.specs.search.Ground.{Ground}
 use Rattle.theory.specs.search.Invariant.{Shut, shut-insert}
 use Rattle.theory.specs.search.Along.{Invariant, look-cases, step-expands}
-use Rattle.theory.specs.search.Ends.{steps-keep}
+use Rattle.theory.specs.search.Ends.{on-waits, steps-keep}
 
 module _ (g : Ground) (some : 0 < g .beam) (c : Item) where
   open Ground g using (d, rows, beam)
@@ -92,3 +92,33 @@ module _ (g : Ground) (some : 0 < g .beam) (c : Item) where
       go : Mem c (s .work) ⊎ Shut beam (s .work) c → (fuel : ℕ) → ¬ Mem (c .id) (steps d rows beam fuel s .expanded)
       go (inl held) = absurd (out held)
       go (inr h) = shut-unexpanded (v .kept .seen .own c m) s v h new
+
+-- ---- so the unexpanded part of work is enough: a step expands the best of it
+
+-- of what is in work and not expanded, b comes last in a beam's order
+pub record BestUnexpanded (s : State) (b : Item) : Type 0 where
+  pub held : Mem b (s .work)
+  pub unexpanded : ¬ Mem (b .id) (s .expanded)
+  pub last : (x : Item) → Mem x (s .work) → ¬ Mem (x .id) (s .expanded) → (worse x b ≡ true) ⊎ (x ≡ b)
+
+pub step-from-work : (g : Ground) → 0 < g .beam → (s : State) → Invariant g s → stops (g .beam) s ≡ false → BestUnexpanded s (best (s .frontier))
+step-from-work g some s v on =
+    record {
+      held = held (v .kept .holding .out b (v .kept .waiting .seen b at-end));
+      unexpanded = v .kept .waiting .fresh b at-end;
+      last = λ x m new. last x new (v .kept .holding .waits x m);
+    }
+  where
+    b : Item
+    b = best (s .frontier)
+
+    at-end : Mem b (s .frontier)
+    at-end = best-in (s .frontier) (on-waits g s on)
+
+    held : Mem b (s .work) ⊎ Shut (g .beam) (s .work) b → Mem b (s .work)
+    held (inl m) = m
+    held (inr h) = absurd (omega (arith, step-nearer g some b s h on))
+
+    last : (x : Item) → ¬ Mem (x .id) (s .expanded) → Mem (x .id) (s .expanded) ⊎ Mem x (s .frontier) → (worse x b ≡ true) ⊎ (x ≡ b)
+    last x new (inl m) = absurd (new m)
+    last x new (inr m) = best-after (s .frontier) (v .kept .waiting .sorted) x m
