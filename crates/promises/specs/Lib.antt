@@ -8,6 +8,7 @@
 --   Slack               the slack in whole numbers
 --   Searching           demand 3, second sentence, of every accepted search: what answers tell and exclude (Tells, in theory)
 --   Held                the same over what a caller holds after a search, with a run of records or not
+--   Counting            10/13: what has left a full beam is never expanded; a search's two counts, and that no other call has any
 --   BeamZero, Harmless  beam 0 acts as 1; padding anywhere, repeats and own ids change nothing
 --   LookingUp           lookup: its number, a refusal, the search that it is, demand 3 over the rows as it reads them
 --   Fitting             fit: what 0 says, and what it says of a search and of a lookup
@@ -23,6 +24,7 @@ pub mod Outcomes
 pub mod Medoid
 pub mod Searching
 pub mod Held
+pub mod Counting
 pub mod BeamZero
 pub mod Harmless
 pub mod LookingUp
