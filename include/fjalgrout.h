@@ -57,13 +57,18 @@ extern "C" {
 #define FJALGROUT_MOST_QUERIES 65535
 
 /* What every call but report returns. A refusal has its number and every other field 0. On success a search, exhaustive too, gives its answer count, medoid
- * its id, distance its value, a single draw its draw; every other such field is 0. */
+ * its id, distance its value, a single draw its draw; every other such field is 0.
+ * `expanded`, how many entries' rows were walked, and `measured`, how many distances were worked out, are for search, lookup and records; in every other call,
+ * exhaustive included, they are 0. Each entry is expanded at most once. expanded <= measured, measured <= n, and measured <= 1 + degree x expanded. With beam 0
+ * or 1 nothing is expanded and measured is 1. k alters neither. */
 typedef struct {
     uint32_t number;
     size_t count;
     uint32_t id;
     uint32_t draw;
     float distance;
+    size_t expanded;
+    size_t measured;
 } fjalgrout_answer;
 
 /* The build parameters. NaN alpha and any alpha below 1.0 act as 1.0. Beam 0 is legal. */
@@ -111,9 +116,10 @@ static inline size_t fjalgrout_wide_words(size_t n, size_t degree) { return fjal
 static inline size_t fjalgrout_build_words(size_t n) { return fjalgrout_saturated(n, 6, 32768); }
 static inline size_t fjalgrout_build_floats(size_t n) { return fjalgrout_saturated(n, 4, 1024); }
 
-/* Room for a search, left zero likewise, and the answers that each of its outputs must have room for: min(k, max(beam, 1)). */
-static inline size_t fjalgrout_search_words(size_t n) { return fjalgrout_saturated(n, 2, 256); }
-static inline size_t fjalgrout_search_floats(size_t n) { return fjalgrout_saturated(n, 1, 256); }
+/* Room for a search, left zero likewise: n + 512 words, and 512 floats whatever n is. And the answers that each of its outputs must have room for:
+ * min(k, max(beam, 1)). */
+static inline size_t fjalgrout_search_words(size_t n) { return fjalgrout_saturated(n, 1, 512); }
+static inline size_t fjalgrout_search_floats(size_t n) { return (void)n, 512; }
 static inline size_t fjalgrout_most_answers(size_t beam, size_t k) {
     size_t most = beam < 1 ? 1 : beam;
     return k < most ? k : most;
@@ -123,8 +129,8 @@ static inline size_t fjalgrout_most_answers(size_t beam, size_t k) {
 static inline size_t fjalgrout_most_nearest(size_t n, size_t k) { return k < n ? k : n; }
 
 /* Room for a report, left zero likewise: a search's, and 512 more of each kind. */
-static inline size_t fjalgrout_report_words(size_t n) { return fjalgrout_saturated(n, 2, 768); }
-static inline size_t fjalgrout_report_floats(size_t n) { return fjalgrout_saturated(n, 1, 768); }
+static inline size_t fjalgrout_report_words(size_t n) { return fjalgrout_saturated(n, 1, 1024); }
+static inline size_t fjalgrout_report_floats(size_t n) { return (void)n, 1024; }
 
 /* The pivots that a draw of them writes: min(8, n). */
 static inline size_t fjalgrout_most_pivots(size_t n) { return n < FJALGROUT_MOST_PIVOTS ? n : FJALGROUT_MOST_PIVOTS; }

@@ -10,11 +10,11 @@ pub use c::{Answer, Candidate, Params, Report};
 
 /// Field by field, the distance by its bits: `==` tells no -0.0 from 0.0.
 pub fn same(a: Answer, b: Answer) -> bool {
-    let fields = |a: Answer| (a.number, a.count, a.id, a.draw, a.distance.to_bits());
+    let fields = |a: Answer| (a.number, a.count, a.id, a.draw, a.distance.to_bits(), a.expanded, a.measured);
     fields(a) == fields(b)
 }
 
-pub const DONE: Answer = Answer { number: 0, count: 0, id: 0, draw: 0, distance: 0.0 };
+pub const DONE: Answer = Answer { number: 0, count: 0, id: 0, draw: 0, distance: 0.0, expanded: 0, measured: 0 };
 
 pub const PAD: u32 = u32::MAX;
 

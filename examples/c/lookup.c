@@ -73,7 +73,7 @@ int main(void) {
     fjalgrout_answer found = fjalgrout_lookup(N, DIM, vectors, sizeof vectors, params.degree, BEAM, K, start, closed, closed_words, query, DIM, words,
                                               words_count, floats, floats_count, ids, K, dists, K);
     need("lookup", found);
-    printf("start %u, %zu answers\n", start, found.count);
+    printf("start %u, %zu answers, %zu rows walked, %zu distances worked out\n", start, found.count, found.expanded, found.measured);
     for (size_t i = 0; i < found.count; i++) printf("id %u label %u distance %.0f\n", ids[i], ids[i] % LABELS, dists[i]);
 
     free(opening), free(closed), free(wide), free(order), free(seeds), free(words), free(floats);

@@ -1,5 +1,5 @@
-/* Checks of the library through C: cases of docs/01-scope.md with their outcomes, equal distances as 3/13 lists them, and refusals, each of which must give
- * its number and change nothing. */
+/* Checks of the library through C: cases of docs/01-scope.md with their outcomes, equal distances as 3/13 lists them, a search's counts and room as 10/13 has
+ * them, and refusals, each of which must give its number and change nothing. */
 #include <fjalgrout.h>
 #include <math.h>
 #include <stdio.h>
@@ -28,7 +28,7 @@ static void fill_floats(void *floats, size_t bytes) {
 
 /* The fields beside the number, all 0 in a refusal and in a call that only fills slices; the distance is +0.0. */
 static int only(fjalgrout_answer a, uint32_t number) {
-    return a.number == number && a.count == 0 && a.id == 0 && a.draw == 0 && a.distance == 0 && !signbit(a.distance);
+    return a.number == number && a.count == 0 && a.id == 0 && a.draw == 0 && a.distance == 0 && !signbit(a.distance) && a.expanded == 0 && a.measured == 0;
 }
 
 /* ---- distance */
@@ -51,14 +51,17 @@ static void test_distance(void) {
 static const uint8_t line[4] = {10, 20, 30, 40}, bent[4] = {10, 20, 30, 25}, besides[4] = {20, 30, 25, 40}, alike[4] = {20, 20, 20, 20};
 static const uint32_t line_rows[8] = {1, PAD, 0, 2, 1, 3, 2, PAD};
 
+/* The room of a search of it. */
+enum { WORDS = 4 + 512, FLOATS = 512 };
+
 /* One search with all that it is lent; every slice has guards behind its room, and a pattern to begin with. */
 struct searching {
     size_t n, dim, vectors_count, degree, beam, k, table_count, query_count, words_count, floats_count, ids_count, dists_count;
     uint32_t start, table[8];
     const uint8_t *vectors;
     uint8_t query;
-    uint32_t words[2 * 4 + 256 + 4], ids[12];
-    float floats[4 + 256 + 4], dists[12];
+    uint32_t words[WORDS + 4], ids[12];
+    float floats[FLOATS + 4], dists[12];
 };
 
 static struct searching the_line(uint8_t query, size_t beam, size_t k) {
@@ -67,7 +70,7 @@ static struct searching the_line(uint8_t query, size_t beam, size_t k) {
     s.n = 4, s.dim = 1, s.vectors_count = 4, s.degree = 2, s.beam = beam, s.k = k, s.start = 0;
     s.vectors = line, s.query = query, s.query_count = 1, s.table_count = 8;
     memcpy(s.table, line_rows, sizeof line_rows);
-    s.words_count = fjalgrout_search_words(4), s.floats_count = fjalgrout_search_floats(4);
+    s.words_count = WORDS, s.floats_count = FLOATS;
     s.ids_count = s.dists_count = fjalgrout_most_answers(beam, k);
     return s;
 }
@@ -87,16 +90,17 @@ static void answers_by(int at, fjalgrout_answer (*call)(struct searching *), str
     fjalgrout_answer a = call(&s);
     check_at(at, "done", a.number == 0 && a.id == 0 && a.draw == 0 && a.distance == 0);
     check_at(at, "count", a.count == count);
+    check_at(at, "bounds of the counts", a.expanded <= a.measured && a.measured <= s.n && a.measured <= 1 + s.degree * a.expanded);
     check_at(at, "ids", memcmp(s.ids, ids, count * 4) == 0);
     check_at(at, "distances", memcmp(s.dists, dists, count * sizeof(float)) == 0);
     check_at(at, "ids beyond the answers", memcmp(s.ids + count, before.ids + count, sizeof s.ids - count * 4) == 0);
     check_at(at, "distances beyond the answers", memcmp(s.dists + count, before.dists + count, sizeof s.dists - count * sizeof(float)) == 0);
     int zero = 1;
-    for (size_t i = 0; i < s.words_count; i++) zero = zero && s.words[i] == 0;
-    for (size_t i = 0; i < s.floats_count; i++) zero = zero && s.floats[i] == 0 && !signbit(s.floats[i]);
+    for (size_t i = 0; i < WORDS; i++) zero = zero && s.words[i] == 0;
+    for (size_t i = 0; i < FLOATS; i++) zero = zero && s.floats[i] == 0 && !signbit(s.floats[i]);
     check_at(at, "room left zero", zero);
-    check_at(at, "words beyond the room", memcmp(s.words + s.words_count, before.words + s.words_count, 16) == 0);
-    check_at(at, "floats beyond the room", memcmp(s.floats + s.floats_count, before.floats + s.floats_count, 16) == 0);
+    check_at(at, "words beyond the room", memcmp(s.words + WORDS, before.words + WORDS, 16) == 0);
+    check_at(at, "floats beyond the room", memcmp(s.floats + FLOATS, before.floats + FLOATS, 16) == 0);
     check_at(at, "the table", memcmp(s.table, before.table, sizeof s.table) == 0);
 }
 
@@ -180,6 +184,38 @@ static void test_equals(void) {
     ANSWERS(from_the_first(3, 2), 2, ((uint32_t[]){2, 1}), ((float[]){0, 25}));
 }
 
+/* ---- entries expanded and distances worked out; the room, of which every other test lends just as much, and the refusals one fewer */
+
+static void takes_at(int at, struct searching s, size_t expanded, size_t measured) {
+    fjalgrout_candidate run[4];
+    fjalgrout_answer a = search(&s), b = lookup(&s), c = run_records(&s, run, 4);
+    check_at(at, "the search's counts", a.number == 0 && a.expanded == expanded && a.measured == measured);
+    check_at(at, "the lookup's counts", b.number == 0 && b.expanded == expanded && b.measured == measured);
+    check_at(at, "the counts with records", c.number == 0 && c.expanded == expanded && c.measured == measured);
+}
+#define TAKES(s, expanded, measured) takes_at(__LINE__, s, expanded, measured)
+
+static void test_counts(void) {
+    TAKES(the_line(38, 2, 2), 4, 4);
+    TAKES(the_line(38, 2, 0), 4, 4);
+    TAKES(the_line(38, 1, 2), 0, 1);
+    TAKES(the_line(38, 0, 2), 0, 1);
+    /* entry 3 fills the beam as its worst: it is not expanded */
+    TAKES(the_line(25, 4, 4), 3, 4);
+    /* entry 2 is measured and not expanded, entry 3 neither */
+    struct searching s = the_line(25, 2, 2);
+    s.vectors = bent;
+    TAKES(s, 2, 3);
+}
+
+static void test_room(void) {
+    CHECK(fjalgrout_search_words(4) == WORDS && fjalgrout_search_floats(4) == FLOATS);
+    /* what is lent beyond it stays as it was */
+    struct searching s = the_line(38, 2, 2);
+    s.words_count += 4, s.floats_count += 4;
+    ANSWERS(s, 2, ((uint32_t[]){3, 2}), ((float[]){4, 64}));
+}
+
 #define REFUSES(number, change) \
     do { \
         struct searching s = the_line(38, 2, 2); \
@@ -220,6 +256,8 @@ static void test_lookup(void) {
     struct searching s = the_line(38, 8, 8);
     s.table[3] = 4;
     answers_by(__LINE__, lookup, s, 2, (uint32_t[]){1, 0}, (float[]){324, 784});
+    fjalgrout_answer a = lookup(&s);
+    CHECK(a.expanded == 2 && a.measured == 2);
     /* a row goes on behind such a word */
     s = the_line(38, 8, 8), s.table[2] = PAD - 1;
     answers_by(__LINE__, lookup, s, 4, (uint32_t[]){3, 2, 1, 0}, (float[]){4, 64, 324, 784});
@@ -273,7 +311,9 @@ static void nearest_at(int at, struct exhausting e, size_t count, const uint32_t
     struct exhausting want = e;
     memcpy(want.ids, ids, count * 4), memcpy(want.dists, dists, count * sizeof(float));
     fjalgrout_answer a = exhaustive(&e);
-    check_at(at, "done", a.number == 0 && a.count == count && a.id == 0 && a.draw == 0 && a.distance == 0 && !signbit(a.distance));
+    check_at(at, "count", a.count == count);
+    a.count = 0;
+    check_at(at, "done", only(a, 0));
     check_at(at, "the nearest, and nothing beyond them", memcmp(&e, &want, sizeof e) == 0);
 }
 #define NEAREST(e, count, ids, dists) nearest_at(__LINE__, e, count, ids, dists)
@@ -331,8 +371,8 @@ struct reporting {
     size_t n, dim, vectors_count, degree, beam, k, table_count, queries_count, words_count, floats_count;
     uint32_t start, table[8];
     const uint8_t *vectors, *queries;
-    uint32_t words[2 * 4 + 768 + 4];
-    float floats[4 + 768 + 4];
+    uint32_t words[4 + 1024 + 4];
+    float floats[1024 + 4];
 };
 
 static const uint8_t line_queries[2] = {25, 38}, many_queries[65536];
@@ -449,7 +489,9 @@ static void test_records(void) {
 static void test_medoid(void) {
     uint32_t pivots[9] = {0, 3, 0, 0, 0, 0, 0, 0, 0}, far[1] = {4};
     fjalgrout_answer a = fjalgrout_medoid(4, 1, line, 4, pivots, 2);
-    CHECK(a.number == 0 && a.id == 1 && a.count == 0 && a.draw == 0 && a.distance == 0);
+    CHECK(a.id == 1);
+    a.id = 0;
+    CHECK(only(a, 0));
     CHECK(only(fjalgrout_medoid(4, 0, line, 4, pivots, 2), 1));
     CHECK(only(fjalgrout_medoid(4, 1, line, 3, pivots, 2), 2));
     CHECK(only(fjalgrout_medoid(4, 1, line, 4, pivots, 0), 12));
@@ -690,14 +732,14 @@ static void test_defaults(void) {
 static void test_sizes(void) {
     for (size_t degree = 0; degree <= 65; degree++) CHECK(fjalgrout_slack(degree) == (13 * degree + 9) / 10);
     CHECK(fjalgrout_build_words(65536) == 425984 && fjalgrout_build_floats(65536) == 263168);
-    CHECK(fjalgrout_search_words(65536) == 131328 && fjalgrout_search_floats(65536) == 65792);
+    CHECK(fjalgrout_search_words(65536) == 66048 && fjalgrout_search_floats(65536) == 512);
     CHECK(fjalgrout_closed_words(65536, 64) == 4194304 && fjalgrout_wide_words(65536, 64) == 5505024 && fjalgrout_closed_words(9, 0) == 0);
     const size_t largest = (SIZE_MAX - 32768) / 6;
     CHECK(fjalgrout_build_words(largest) == 6 * largest + 32768 && fjalgrout_build_words(largest + 1) == SIZE_MAX);
     CHECK(fjalgrout_slack(SIZE_MAX) == SIZE_MAX && fjalgrout_build_words(SIZE_MAX) == SIZE_MAX && fjalgrout_build_floats(SIZE_MAX) == SIZE_MAX);
-    CHECK(fjalgrout_search_words(SIZE_MAX) == SIZE_MAX && fjalgrout_search_floats(SIZE_MAX) == SIZE_MAX);
-    CHECK(fjalgrout_report_words(65536) == 131840 && fjalgrout_report_floats(65536) == 66304);
-    CHECK(fjalgrout_report_words(SIZE_MAX) == SIZE_MAX && fjalgrout_report_floats(SIZE_MAX - 767) == SIZE_MAX);
+    CHECK(fjalgrout_search_words(SIZE_MAX - 513) == SIZE_MAX - 1 && fjalgrout_search_words(SIZE_MAX) == SIZE_MAX && fjalgrout_search_floats(SIZE_MAX) == 512);
+    CHECK(fjalgrout_report_words(65536) == 66560 && fjalgrout_report_floats(65536) == 1024);
+    CHECK(fjalgrout_report_words(SIZE_MAX - 1023) == SIZE_MAX && fjalgrout_report_floats(SIZE_MAX) == 1024);
     CHECK(fjalgrout_most_nearest(4, 3) == 3 && fjalgrout_most_nearest(4, 256) == 4 && fjalgrout_most_nearest(SIZE_MAX, SIZE_MAX) == SIZE_MAX);
     CHECK(fjalgrout_closed_words(SIZE_MAX, 2) == SIZE_MAX && fjalgrout_wide_words(2, SIZE_MAX) == SIZE_MAX);
     CHECK(fjalgrout_most_answers(SIZE_MAX, SIZE_MAX) == SIZE_MAX && fjalgrout_most_answers(0, SIZE_MAX) == 1 && fjalgrout_most_pivots(SIZE_MAX) == 8);
@@ -709,6 +751,8 @@ int main(void) {
     test_distance();
     test_search();
     test_equals();
+    test_counts();
+    test_room();
     test_search_refusals();
     test_lookup();
     test_fit();

@@ -3,7 +3,8 @@
 //! The file uses nothing else of the crate: it can also be taken in by `#[path = ".."] mod ffi;`.
 
 /// What every call but report returns. A refusal has its number and every other field 0. On success a search, exhaustive too, gives its answer count,
-/// medoid its id, distance its value, a single draw its draw; every other such field is 0.
+/// medoid its id, distance its value, a single draw its draw; search, lookup and records also how many entries' rows they walked and how many distances
+/// they worked out; every other such field is 0.
 #[repr(C)]
 #[derive(Clone, Copy, Debug, PartialEq)]
 pub struct Answer {
@@ -12,6 +13,8 @@ pub struct Answer {
     pub id: u32,
     pub draw: u32,
     pub distance: f32,
+    pub expanded: usize,
+    pub measured: usize,
 }
 
 /// The build parameters. NaN alpha and any alpha below 1.0 act as 1.0. Beam 0 is legal.

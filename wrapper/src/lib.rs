@@ -83,11 +83,27 @@ pub struct Table<'a> {
     pub rows: &'a [u32],
 }
 
+/// What [`search`], [`lookup`] and [`search_records`] found, and what it took. k alters the first alone.
+#[derive(Clone, Copy, Debug, PartialEq, Eq)]
+pub struct Found {
+    /// How many answers there are, at the front of the outputs.
+    pub count: usize,
+    /// How many entries' rows were walked, each entry's at most once. With beam 0 or 1 none.
+    pub expanded: usize,
+    /// How many distances were worked out: at least `expanded`, at most n, and at most 1 + degree x `expanded`.
+    pub measured: usize,
+}
+
 fn done(answer: Answer) -> Result<Answer, Refusal> {
     match answer.number {
         0 => Ok(answer),
         number => Err(Refusal(number)),
     }
+}
+
+fn found(answer: Answer) -> Result<Found, Refusal> {
+    let Answer { count, expanded, measured, .. } = done(answer)?;
+    Ok(Found { count, expanded, measured })
 }
 
 /// Distance: the sum of squared byte differences, an exact whole number. Numbers 1, 11.
@@ -212,14 +228,14 @@ pub fn build(
     done(answer).map(drop)
 }
 
-/// Search: for a table that nobody has checked. How many answers there are, by distance, then the higher id, at the front of `ids` and `dists`; of equals at
-/// the cut to k the higher ids. What lies beyond them is untouched. What a full beam keeps is another matter: of equals the lower id.
+/// Search: for a table that nobody has checked. The answers, by distance, then the higher id, come to the front of `ids` and `dists`; of equals at the cut to k
+/// the higher ids. What lies beyond them is untouched. What a full beam keeps is another matter: of equals the lower id.
 ///
 /// There are at most [`most_answers`] of them, min(k, max(beam, 1)). Fewer than that are all that the rows lead to from the start. As many as that: an
 /// entry that is missing can be reached only by passing some entry that is no nearer than the last answer. (It may be nearer itself: the search is greedy.)
 ///
 /// Scratch: [`search_room`]; each output [`most_answers`]. Numbers 1, 2, 3, 4, 6, 8, 10, 11.
-pub fn search(vectors: Vectors, table: Table, wanted: Wanted, query: &[u8], scratch: Scratch, ids: &mut [u32], dists: &mut [f32]) -> Result<usize, Refusal> {
+pub fn search(vectors: Vectors, table: Table, wanted: Wanted, query: &[u8], scratch: Scratch, ids: &mut [u32], dists: &mut [f32]) -> Result<Found, Refusal> {
     let Vectors { n, dim, bytes } = vectors;
     let Scratch { words, floats } = scratch;
     // SAFETY: address and length are those of slices, and the borrows keep those that are written apart.
@@ -247,14 +263,14 @@ pub fn search(vectors: Vectors, table: Table, wanted: Wanted, query: &[u8], scra
             dists.len(),
         )
     };
-    Ok(done(answer)?.count)
+    found(answer)
 }
 
 /// Lookup: what a tower calls. The same search, in the same order, without the pass over the table: 8 is given for its length alone, and a word that is no id
 /// below n reads as padding. So it is safe on every table, and where [`fit`] accepts the table it is [`search`] itself, refusals included.
 ///
 /// Scratch: [`search_room`]; each output [`most_answers`]. Numbers 1, 2, 3, 4, 6, 8, 10, 11.
-pub fn lookup(vectors: Vectors, table: Table, wanted: Wanted, query: &[u8], scratch: Scratch, ids: &mut [u32], dists: &mut [f32]) -> Result<usize, Refusal> {
+pub fn lookup(vectors: Vectors, table: Table, wanted: Wanted, query: &[u8], scratch: Scratch, ids: &mut [u32], dists: &mut [f32]) -> Result<Found, Refusal> {
     let Vectors { n, dim, bytes } = vectors;
     let Scratch { words, floats } = scratch;
     // SAFETY: address and length are those of slices, and the borrows keep those that are written apart.
@@ -282,7 +298,7 @@ pub fn lookup(vectors: Vectors, table: Table, wanted: Wanted, query: &[u8], scra
             dists.len(),
         )
     };
-    Ok(done(answer)?.count)
+    found(answer)
 }
 
 /// Fit: whether a search would take the table: asked once, when a table is loaded; [`lookup`] does the rest. Numbers 2 (the limits of n), 3, 8.
@@ -304,7 +320,7 @@ pub fn search_records(
     ids: &mut [u32],
     dists: &mut [f32],
     run: &mut [Candidate],
-) -> Result<usize, Refusal> {
+) -> Result<Found, Refusal> {
     let Vectors { n, dim, bytes } = vectors;
     let Scratch { words, floats } = scratch;
     // SAFETY: address and length are those of slices, and the borrows keep those that are written apart.
@@ -334,5 +350,5 @@ pub fn search_records(
             run.len(),
         )
     };
-    Ok(done(answer)?.count)
+    found(answer)
 }

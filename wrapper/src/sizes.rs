@@ -24,19 +24,19 @@ pub fn build_room(n: usize) -> Room {
     }
 }
 
-/// Room for a search.
+/// Room for a search: the floats are as many whatever n is.
 pub fn search_room(n: usize) -> Room {
     Room {
-        words: n.saturating_mul(2).saturating_add(256),
-        floats: n.saturating_add(256),
+        words: n.saturating_add(512),
+        floats: 512,
     }
 }
 
 /// Room for a report: a search's, and 512 more of each kind.
 pub fn report_room(n: usize) -> Room {
     Room {
-        words: n.saturating_mul(2).saturating_add(768),
-        floats: n.saturating_add(768),
+        words: n.saturating_add(1_024),
+        floats: 1_024,
     }
 }
 

@@ -1,4 +1,5 @@
-//! The cases of docs/01-scope.md that a public call shows, with their outcomes; those of recall, 1/13; and of equal distances, as 3/13 lists them.
+//! The cases of docs/01-scope.md that a public call shows, with their outcomes; those of recall, 1/13; of equal distances, as 3/13 lists them; and a search's
+//! counts, 10/13.
 
 mod lent;
 
@@ -40,14 +41,30 @@ fn a_stray_word_in_a_lookup() {
     assert_eq!(call.looked_up(), Ok(all));
     call.rows[3] = 4;
     assert_eq!(call.looked_up(), Ok(vec![(1, 324.0), (0, 784.0)]));
+    assert_eq!(call.counts(), (2, 2));
     call.rows.fill(PADDING - 1);
     assert_eq!(call.looked_up(), Ok(vec![(0, 784.0)]));
+    assert_eq!(call.counts(), (1, 1));
 }
 
 /// Entry 3 at 0 is missed: the walk stops before it.
 #[test]
 fn an_entry_that_is_missed() {
     assert_eq!(bent(2, 2).answers(), Ok(vec![(2, 25.0), (1, 25.0)]));
+}
+
+/// Entries expanded, and measured. k alters neither.
+#[test]
+fn what_a_search_takes() {
+    assert_eq!(line_search(38, 2, 2).counts(), (4, 4));
+    assert_eq!(line_search(38, 2, 0).counts(), (4, 4));
+    assert_eq!(line_search(38, 1, 2).counts(), (0, 1));
+    assert_eq!(line_search(38, 0, 2).counts(), (0, 1));
+    // entry 3 fills the beam as its worst: it is not expanded
+    assert_eq!(line_search(25, 4, 4).counts(), (3, 4));
+    // entry 2 is measured and not expanded, entry 3 neither
+    assert_eq!(bent(2, 2).counts(), (2, 3));
+    assert_eq!(bent(8, 1).counts(), (4, 4));
 }
 
 /// A k above the beam brings no more than the beam, though the rows lead to four.

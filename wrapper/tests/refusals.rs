@@ -276,14 +276,17 @@ fn sizes_have_no_condition() {
         words: usize::MAX,
         floats: usize::MAX,
     };
-    assert_eq!(
-        (slack(usize::MAX), build_room(usize::MAX), search_room(usize::MAX)),
-        (usize::MAX, greatest, greatest)
-    );
+    assert_eq!((slack(usize::MAX), build_room(usize::MAX)), (usize::MAX, greatest));
     assert_eq!(most_answers(usize::MAX, usize::MAX), usize::MAX);
     let room = |words, floats| Room { words, floats };
-    assert_eq!((build_room(65_536), search_room(65_536)), (room(425_984, 263_168), room(131_328, 65_792)));
-    assert_eq!((report_room(65_536), report_room(usize::MAX)), (room(131_840, 66_304), greatest));
+    assert_eq!(build_room(65_536), room(425_984, 263_168));
+    // the floats of a search and of a report are as many whatever n is
+    assert_eq!((search_room(4), search_room(65_536)), (room(516, 512), room(66_048, 512)));
+    assert_eq!((report_room(4), report_room(65_536)), (room(1_028, 1_024), room(66_560, 1_024)));
+    assert_eq!(
+        (search_room(usize::MAX), report_room(usize::MAX)),
+        (room(usize::MAX, 512), room(usize::MAX, 1_024))
+    );
     assert_eq!((most_nearest(4, 3), most_nearest(4, 256), most_nearest(0, 1)), (3, 4, 0));
     let largest = (usize::MAX - 32_768) / 6;
     assert_eq!((build_room(largest).words, build_room(largest + 1).words), (6 * largest + 32_768, usize::MAX));

@@ -3,7 +3,7 @@
 
 use fjalgrout::{
     batch, build, build_room, close, exhaustive, fit, lookup, most_answers, most_nearest, report, report_room, search, search_records, search_room, slack,
-    Candidate, Params, Refusal, Report, Scratch, Table, Vectors, Wanted, PADDING,
+    Candidate, Found, Params, Refusal, Report, Scratch, Table, Vectors, Wanted, PADDING,
 };
 
 pub const LINE: [u8; 4] = [10, 20, 30, 40];
@@ -87,21 +87,21 @@ enum Asked<'a> {
 impl Search {
     /// By the search; and where it takes the table, or refuses before it looks at its words, the lookup must do the same.
     pub fn answers(&self) -> Result<Vec<(u32, f32)>, Refusal> {
-        let answers = self.given(Asked::Search);
-        if answers != Err(Refusal(8)) || fit(self.n, self.degree, &self.rows).is_ok() {
-            assert_eq!(self.looked_up(), answers, "the lookup");
+        let given = self.given(Asked::Search);
+        if given != Err(Refusal(8)) || fit(self.n, self.degree, &self.rows).is_ok() {
+            assert_eq!(self.given(Asked::Lookup), given, "the lookup");
         }
-        answers
+        given.map(|(_, answers)| answers)
     }
 
     pub fn looked_up(&self) -> Result<Vec<(u32, f32)>, Refusal> {
-        self.given(Asked::Lookup)
+        self.given(Asked::Lookup).map(|(_, answers)| answers)
     }
 
     /// With a run of so many records, which is looked at too.
     pub fn answers_in(&self, run: usize) -> Result<Vec<(u32, f32)>, Refusal> {
         let mut records: Vec<Candidate> = floats(run).into_iter().map(|distance| Candidate { id: PATTERN, distance }).collect();
-        let given = self.given(Asked::Records(&mut records[..run]));
+        let given = self.given(Asked::Records(&mut records[..run])).map(|(_, answers)| answers);
         let answers = given.clone().unwrap_or_default();
         let (ids, distances): (Vec<u32>, Vec<f32>) = records.iter().map(|c| (c.id, c.distance)).unzip();
         assert!(answers.iter().zip(&records).all(|(a, c)| *a == (c.id, c.distance)), "the answers as records");
@@ -112,8 +112,26 @@ impl Search {
         given
     }
 
-    /// The answers of the call, once every word that it was lent has been looked at.
-    fn given(&self, asked: Asked) -> Result<Vec<(u32, f32)>, Refusal> {
+    /// How many entries were expanded and how many measured: by the lookup, and where a search takes the table, by it and with records too.
+    pub fn counts(&self) -> (usize, usize) {
+        let by = |asked| self.given(asked).map(|(found, _)| (found.expanded, found.measured)).unwrap();
+        let counts = by(Asked::Lookup);
+        if fit(self.n, self.degree, &self.rows).is_ok() {
+            let mut run = vec![Candidate { id: 0, distance: 0.0 }; most_answers(self.beam, self.k)];
+            assert_eq!(by(Asked::Search), counts, "the search");
+            assert_eq!(by(Asked::Records(&mut run)), counts, "the search with records");
+        }
+        counts
+    }
+
+    /// What holds of every search. A beam of two or more has room behind the start, so that the start is expanded.
+    fn is_bounded(&self, found: Found) -> bool {
+        let Found { count, expanded, measured } = found;
+        count.max(expanded).max(1) <= measured && measured <= self.n.min(1 + self.degree * expanded) && (expanded == 0) == (self.beam < 2)
+    }
+
+    /// What the call returns and its answers, once every word that it was lent has been looked at.
+    fn given(&self, asked: Asked) -> Result<(Found, Vec<(u32, f32)>), Refusal> {
         let n = self.bytes.len() / self.dim.clamp(1, 256);
         let (room, most) = (search_room(n), most_answers(self.beam, self.k));
         let (mut w, mut f, mut ids, mut dists) = (words(room.words), floats(room.floats), words(most), floats(most));
@@ -134,7 +152,8 @@ impl Search {
             Asked::Lookup => lookup(v, table, wanted, &self.query, scratch, out.0, out.1),
             Asked::Records(run) => search_records(v, table, wanted, &self.query, scratch, out.0, out.1, run),
         };
-        let count = *given.as_ref().unwrap_or(&0);
+        assert!(given.map_or(true, |found| self.is_bounded(found)), "the counts' bounds");
+        let count = given.map_or(0, |found| found.count);
         assert!(holds_pattern(&ids[count..]) && odd_from(count, &dists), "outputs beyond the answers");
         let used = if given.is_ok() { (room.words, room.floats) } else { (0, 0) };
         assert!(is_zero(&w[..used.0]) && is_zero(&bits(&f[..used.1])), "room left zero");
@@ -142,7 +161,7 @@ impl Search {
             holds_pattern(&w[used.0..]) && odd_from(used.1, &f),
             "scratch beyond the room, or of a refused call"
         );
-        given.map(|count| ids.into_iter().zip(dists).take(count).collect())
+        given.map(|found| (found, ids.into_iter().zip(dists).take(count).collect()))
     }
 }
 
