@@ -5,7 +5,7 @@ use crate::must;
 use crate::ours::{self, slack, Answer, Candidate, Params, DONE};
 use crate::recall;
 use crate::tally::{note, note_if};
-use diskann::probe;
+use diskann::probe::{self, Walk};
 use std::cmp::Ordering;
 
 fn params(p: Params) -> probe::Params {
@@ -78,7 +78,7 @@ struct Searched {
 /// One call on room and outputs of no meaning.
 fn call_on(r: &mut Rng, call: Call, s: ours::Search) -> Searched {
     let most = s.k.min(s.beam.max(1));
-    let (mut words, mut floats) = (pattern(r, 2 * s.n + 256 + MORE), pattern(r, s.n + 256 + MORE));
+    let (mut words, mut floats) = (pattern(r, s.n + 512 + MORE), pattern(r, 512 + MORE));
     let (mut ids, mut dists) = (pattern(r, most + MORE), pattern(r, most + MORE));
     let mut run = pattern(r, most + MORE);
     let answer = reads(&[s.vectors, s.query], &[s.table], || match call {
@@ -89,24 +89,29 @@ fn call_on(r: &mut Rng, call: Call, s: ours::Search) -> Searched {
     Searched { answer, words, floats, ids, dists, run }
 }
 
-/// 000's own answer, as many as the beam holds, in our order.
-fn answers_of_000(d: &Data, table: &[u32], query: &[u8], beam: usize) -> Vec<(u32, f32)> {
+/// 000's own answers, as many as the beam holds, in our order, and its counts.
+fn walk_of_000(d: &Data, table: &[u32], query: &[u8], beam: usize) -> Walk {
     let (n, dim, degree, start) = (d.n, d.dim, d.params.degree, d.start);
     // 000 would follow a word that is no id, so it has the table as lookup reads it: the table itself, where every word is one or padding
     let read = cleaned(n, table);
-    probe::search(probe::Search { dim, vectors: &d.vectors, degree, table: &read, query, start, beam })
+    let walk = probe::walk(probe::Search { dim, vectors: &d.vectors, degree, table: &read, query, start, beam });
+    note_if(walk.expanded == 0, "nothing expanded");
+    note_if(walk.measured > beam.max(1), "more measured than the beam holds");
+    note_if(n > 1 && walk.measured == n, "every entry measured");
+    walk
 }
 
-/// One call, whose answers must be the first k of these.
-fn call_beside(r: &mut Rng, call: Call, given: ours::Search, listed: &[(u32, f32)]) {
-    let (want_ids, want_dists): (Vec<u32>, Vec<f32>) = listed.iter().copied().take(given.k).unzip();
+/// One call, whose answers must be the first k of 000's, and its counts 000's.
+fn call_beside(r: &mut Rng, call: Call, given: ours::Search, walk: &Walk) {
+    let (want_ids, want_dists): (Vec<u32>, Vec<f32>) = walk.answers.iter().copied().take(given.k).unzip();
     let records = want_ids.iter().zip(&want_dists).map(|(&id, &distance)| Candidate { id, distance });
     let want_run: Vec<Candidate> = records.filter(|_| call == Call::Records).collect();
+    let want = Answer { count: want_ids.len(), expanded: walk.expanded, measured: walk.measured, ..DONE };
     let got = call_on(r, call, given);
-    must(ours::same(got.answer, Answer { count: want_ids.len(), ..DONE }), "search: answer");
+    must(ours::same(got.answer, want), "search: answer");
     must(got.ids.begins(&want_ids) && got.dists.begins(&want_dists), "search: answers, and nothing beyond them");
     must(got.run.begins(&want_run), "search: records, and nothing beyond them");
-    must(got.words.cleared(2 * given.n + 256) && got.floats.cleared(given.n + 256), "search: room");
+    must(got.words.cleared(given.n + 512) && got.floats.cleared(512), "search: room");
 }
 
 fn search_on(r: &mut Rng, d: &Data, table: &[u32], call: Call) {
@@ -117,7 +122,8 @@ fn search_on(r: &mut Rng, d: &Data, table: &[u32], call: Call) {
         _ => 1 + r.below(40),
     };
     let query = query(r, d);
-    let want = answers_of_000(d, table, &query, beam);
+    let walk = walk_of_000(d, table, &query, beam);
+    let want = &walk.answers;
     // k = beam is 000's own answer; another k cuts that list, and of equals at the cut the higher ids stay
     let k = match r.below(4) {
         0 => r.below(beam + 3),
@@ -131,7 +137,7 @@ fn search_on(r: &mut Rng, d: &Data, table: &[u32], call: Call) {
     note_if(want.len() == beam, "as many answers as the beam");
     note_if(want.windows(2).any(|w| w[0].1 == w[1].1), "equal distances among answers");
     let given = ours::Search { n, dim, vectors: &d.vectors, degree, beam, k, start, table, query: &query };
-    call_beside(r, call, given, &want);
+    call_beside(r, call, given, &walk);
 }
 
 fn any_search(r: &mut Rng, n: usize, call: Call) {
@@ -245,10 +251,10 @@ pub fn report(r: &mut Rng, n: usize) {
 fn report_beside(r: &mut Rng, call: ours::Recall, want: ours::Report) {
     let n = call.n;
     let more = r.below(3) * MORE;
-    let (mut words, mut floats) = (pattern(r, 2 * n + 768 + more), pattern(r, n + 768 + more));
+    let (mut words, mut floats) = (pattern(r, n + 1_024 + more), pattern(r, 1_024 + more));
     let got = reads(&[call.vectors, call.queries], &[call.table], || ours::report(call, words.lend(), floats.lend()));
     must(got == want, "report: the four numbers");
-    must(words.cleared(2 * n + 768) && floats.cleared(n + 768), "report: room");
+    must(words.cleared(n + 1_024) && floats.cleared(1_024), "report: room");
 }
 
 /// At its limits, or one that mostly fills.
@@ -297,12 +303,12 @@ pub fn ties(r: &mut Rng, n: usize) {
     let table = led(r, &d);
     let query = tied_query(r, &d);
     let beam = tied_beam(r, n);
-    let listed = answers_of_000(&d, &table, &query, beam);
-    let k = tied_k(r, beam, listed.len());
+    let walk = walk_of_000(&d, &table, &query, beam);
+    let k = tied_k(r, beam, walk.answers.len());
     note_limits(&d);
-    note_ties(&listed, beam, k);
+    note_ties(&walk.answers, beam, k);
     let given = ours::Search { n, dim, vectors: &d.vectors, degree, beam, k, start, table: &table, query: &query };
-    [Call::Search, Call::Records, Call::Lookup].into_iter().for_each(|call| call_beside(r, call, given, &listed));
+    [Call::Search, Call::Records, Call::Lookup].into_iter().for_each(|call| call_beside(r, call, given, &walk));
     // the other two take no k but 1 to 256
     let k = k.clamp(1, 256);
     let all = recall::nearest(dim, &d.vectors, n, &query);

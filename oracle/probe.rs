@@ -111,11 +111,17 @@ pub fn see_pool(sorted: &[(u32, f32)]) {
     }
 }
 
-/// The worst of a full beam that has left it, and the worst of what is left.
+/// The worst of a full beam that has left it, the worst of what is left, and what is still to be expanded.
 #[inline]
-pub(crate) fn see_left(left: Option<Candidate>, worst: Option<&Candidate>) {
+pub(crate) fn see_left(left: Option<Candidate>, worst: Option<&Candidate>, frontier: &BinaryHeap<Reverse<Candidate>>) {
+    if cfg!(unwatched) {
+        return;
+    }
     if left.map(|c| c.dist) == worst.map(|c| c.dist) {
         see("an equal left the beam");
+    }
+    if frontier.iter().any(|c| Some(c.0) == left) {
+        see("an entry left the beam unexpanded");
     }
 }
 
@@ -180,19 +186,45 @@ pub struct Search<'a> {
 
 /// 000's search over plain rows, with padding left out as `search_with_dists` does: as many answers as the beam holds.
 pub fn found<D: Distance<u8>>(s: Search, metric: D) -> Vec<(u32, f32)> {
+    walked(s, metric, || ())
+}
+
+/// The same, with `asked` called for each row that 000 asks for.
+fn walked<D: Distance<u8>>(s: Search, metric: D, mut asked: impl FnMut()) -> Vec<(u32, f32)> {
     let vector = |id: u32| &s.vectors[id as usize * s.dim..(id as usize + 1) * s.dim];
     let row = |id: u32| &s.table[id as usize * s.degree..(id as usize + 1) * s.degree];
     let distance = |id| metric.eval(s.query, vector(id));
-    let neighbours = |id| row(id).iter().copied().filter(|&word| word != PAD_U32).collect();
+    let neighbours = |id| {
+        asked();
+        row(id).iter().copied().filter(|&word| word != PAD_U32).collect()
+    };
     graph_search(s.start, s.beam, distance, neighbours).into_iter().map(|c| (c.id, c.dist)).collect()
 }
 
-/// The same answers in our order, equal distances by the higher id: 000 leaves them as a heap's layout has them. Which they are is 000's own doing: of
-/// equals its beam keeps the lower id.
-pub fn search(s: Search) -> Vec<(u32, f32)> {
-    let mut pairs = found(s, Bytes);
+/// Our order, equal distances by the higher id: 000 leaves them as a heap's layout has them. Which answers there are is 000's own doing: of equals its beam
+/// keeps the lower id.
+fn ordered(mut pairs: Vec<(u32, f32)>) -> Vec<(u32, f32)> {
     pairs.sort_by(|a, b| a.1.total_cmp(&b.1).then(b.0.cmp(&a.0)));
     pairs
+}
+
+/// 000's answers in our order.
+pub fn search(s: Search) -> Vec<(u32, f32)> {
+    ordered(found(s, Bytes))
+}
+
+/// The same, and what 000 asked for on its way: rows, and distances. Never timed.
+pub struct Walk {
+    pub answers: Vec<(u32, f32)>,
+    pub expanded: usize,
+    pub measured: usize,
+}
+
+pub fn walk(s: Search) -> Walk {
+    let mut expanded = 0;
+    DISTANCES.set(0);
+    let answers = ordered(walked(s, Counted, || expanded += 1));
+    Walk { answers, expanded, measured: distances() as usize }
 }
 
 #[inline]

@@ -345,7 +345,7 @@ fn any_search(r: &mut Rng, n: usize, call: Call) {
     s.params.beam = r.below(30);
     let k = 1 + r.below(30);
     let most = k.min(s.params.beam.max(1));
-    let (mut words_len, mut floats_len, mut ids_len, mut dists_len, mut run_len) = (2 * n + 256, n + 256, most, most, most);
+    let (mut words_len, mut floats_len, mut ids_len, mut dists_len, mut run_len) = (n + 512, 512, most, most, most);
     let mut low = Lowest::default();
     for _ in 0..1 + r.below(2) {
         match r.pick(&[1, 2, 3, 4, 6, 8, 10, 11]) {
@@ -359,8 +359,8 @@ fn any_search(r: &mut Rng, n: usize, call: Call) {
             }
             10 => {
                 match r.below(4 + usize::from(call == Call::Records)) {
-                    0 => words_len = 2 * n + 255,
-                    1 => floats_len = n + 255,
+                    0 => words_len = n + 511,
+                    1 => floats_len = 511,
                     2 => ids_len = most - 1,
                     3 => dists_len = most - 1,
                     _ => run_len = most - 1,
@@ -465,7 +465,7 @@ pub fn report(r: &mut Rng, n: usize) {
     let mut queries: Vec<u8> = (0..count).flat_map(|_| query(r, &d)).collect();
     let mut s = shared(&d);
     s.params.beam = r.below(30);
-    let (mut words_len, mut floats_len) = (2 * n + 768, n + 768);
+    let (mut words_len, mut floats_len) = (n + 1_024, 1_024);
     let mut low = Lowest::default();
     for _ in 0..1 + r.below(2) {
         match r.pick(&[1, 2, 3, 4, 6, 8, 10, 11, 14]) {
@@ -479,8 +479,8 @@ pub fn report(r: &mut Rng, n: usize) {
             }
             10 => {
                 match r.below(2) {
-                    0 => words_len = 2 * n + r.pick(&[767, 256]),
-                    _ => floats_len = n + r.pick(&[767, 256]),
+                    0 => words_len = n + r.pick(&[1_023, 512]),
+                    _ => floats_len = r.pick(&[1_023, 512]),
                 }
                 low.fault(10);
             }

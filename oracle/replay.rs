@@ -206,7 +206,7 @@ fn search(r: &mut Rng, n: usize, most: usize) -> (Case, Left) {
         beam,
     });
     let k = beam.max(1);
-    let c = Case { beam, k, query, table, words: 2 * n + 256, floats: n + 256, ids: k, dists: k, ..case_of(SEARCH, &d, alpha) };
+    let c = Case { beam, k, query, table, words: n + 512, floats: 512, ids: k, dists: k, ..case_of(SEARCH, &d, alpha) };
     let l = Left {
         count: found.len(),
         ids: found.iter().map(|p| p.0).collect(),

@@ -55,7 +55,7 @@ WATCHED = [
     ),
     (
         "                work.pop();\n",
-        "                let left = work.pop(); probe::see_left(left, work.peek());\n",
+        "                let left = work.pop(); probe::see_left(left, work.peek(), &frontier);\n",
     ),
 ]
 
