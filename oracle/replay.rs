@@ -59,6 +59,8 @@ struct Left {
     count: usize,
     id: u32,
     distance: f32,
+    expanded: usize,
+    measured: usize,
     wide: Vec<u32>,
     closed: Vec<u32>,
     ids: Vec<u32>,
@@ -79,7 +81,7 @@ fn over(front: &[u32], len: usize) -> u32 {
 }
 
 fn line(c: &Case, l: &Left) -> String {
-    let mut s = format!("{} {} {} 0 {} ", l.number, l.count, l.id, l.distance);
+    let mut s = format!("{} {} {} 0 {} {} {} ", l.number, l.count, l.id, l.distance, l.expanded, l.measured);
     let room = [over(&vec![0; l.words], WORDS), over(&vec![0; l.floats], FLOATS)];
     let sums: Vec<u32> = match c.kind {
         SEARCH => vec![over(&l.ids, ANSWERS), over(&l.dists, ANSWERS), room[0], room[1]],
@@ -196,7 +198,7 @@ fn search(r: &mut Rng, n: usize, most: usize) -> (Case, Left) {
     } else {
         (0..d.dim).map(|_| r.next() as u8).collect()
     };
-    let found = probe::search(probe::Search {
+    let walk = probe::walk(probe::Search {
         dim: d.dim,
         vectors: &d.vectors,
         degree: d.params.degree,
@@ -208,9 +210,11 @@ fn search(r: &mut Rng, n: usize, most: usize) -> (Case, Left) {
     let k = beam.max(1);
     let c = Case { beam, k, query, table, words: n + 512, floats: 512, ids: k, dists: k, ..case_of(SEARCH, &d, alpha) };
     let l = Left {
-        count: found.len(),
-        ids: found.iter().map(|p| p.0).collect(),
-        dists: found.iter().map(|p| p.1 as u32).collect(),
+        count: walk.answers.len(),
+        expanded: walk.expanded,
+        measured: walk.measured,
+        ids: walk.answers.iter().map(|p| p.0).collect(),
+        dists: walk.answers.iter().map(|p| p.1 as u32).collect(),
         words: c.words,
         floats: c.floats,
         ..Left::default()
