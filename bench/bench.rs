@@ -1,8 +1,8 @@
 //! The proved library and 000 in one binary, on one thread, over the same tables: first that they agree, then the time of each.
 //!
-//!     bench N QUERIES REPEATS
+//!     bench N QUERIES REPEATS [search]
 //!
-//! A search has beam 128 and asks for 128 answers, as many as 000 gives.
+//! A search has beam 128 and asks for 128 answers, as many as 000 gives. With `search` it is all that is measured, over a table that only the library builds.
 mod clock;
 #[allow(dead_code)]
 mod data;
@@ -13,7 +13,7 @@ mod ours;
 mod unchecked;
 
 use clock::best;
-use data::{flat, input, Generator, Input, DIM, PARAMS};
+use data::{built, flat, input, Generator, Input, DIM, PARAMS};
 use diskann::probe::{self, Bytes, Counted};
 use ours::DONE;
 use std::hint::black_box;
@@ -93,30 +93,31 @@ type Found = fn(ours::Search, &mut [u32], &mut [f32], &mut [u32], &mut [f32]) ->
 
 fn searches(i: &Input, table: &[u32], repeats: usize) {
     let (n, degree, start, vectors) = (i.n, PARAMS.degree, i.start, &i.vectors[..]);
-    let (mut words, mut floats) = (vec![0; 2 * n + 256], vec![0.0; n + 256]);
+    let (mut words, mut floats) = (vec![0; n + 512], vec![0.0; 512]);
     let (mut ids, mut dists) = (vec![0; K], vec![0.0; K]);
-    let mut call = |search: Found, query: &[u8]| {
-        let call = ours::Search { n, dim: DIM, vectors, degree, beam: BEAM, k: K, start, table, query };
+    let mut call = |search: Found, beam: usize, query: &[u8]| {
+        let call = ours::Search { n, dim: DIM, vectors, degree, beam, k: K, start, table, query };
         black_box(search(call, &mut words, &mut floats, &mut ids, &mut dists))
     };
     let theirs = |query| probe::Search { dim: DIM, vectors, degree, table, query, start, beam: BEAM };
     agree(i, theirs, table);
     let asked = i.queries.len() as f64;
-    println!("{:<28} 000 {:.1}", "  distances of a search", probe::distances() as f64 / asked);
     // refused by 11, so after the whole of the checks before it, the pass over the table for 8 among them
     let long = vec![0; DIM + 1];
-    assert_eq!(call(ours::search, &long).number, 11);
-    let mut each_query = |search: Found| {
+    assert_eq!(call(ours::search, BEAM, &long).number, 11);
+    let mut each_query = |search: Found, beam: usize| {
         best(repeats, || {
             for query in &i.queries {
-                call(search, query);
+                call(search, beam, query);
             }
         })
     };
-    let (looked_up, whole, accepted) = (each_query(ours::lookup), each_query(ours::search), each_query(unchecked::search));
+    let [looked_up, whole, accepted] = [ours::lookup as Found, ours::search, unchecked::search].map(|search| each_query(search, BEAM));
+    // with beam 1 nothing is expanded: what is left is the clearing of the room, and the start's distance
+    let cleared = each_query(ours::lookup, 1);
     let checks = best(repeats, || {
         for _ in &i.queries {
-            call(ours::search, &long);
+            call(ours::search, BEAM, &long);
         }
     });
     let time = best(repeats, || i.queries.iter().for_each(|q| drop(black_box(probe::found(theirs(q), Bytes)))));
@@ -125,34 +126,45 @@ fn searches(i: &Input, table: &[u32], repeats: usize) {
     line("search, whole call", whole * each, time * each, "us");
     line("search on accepted input", accepted * each, time * each, "us");
     println!("{:<28} {:.3}", "  lookup of accepted search", looked_up / accepted);
+    println!("{:<28} ours {:>12.3} us", "  the clearing alone", cleared * each);
     let bytes = std::mem::size_of_val(table) as f64;
     println!("{:<28} ours {:>12.3} us   {:.1} bytes a ns", "  the checks alone", checks * each, bytes * asked / checks / 1e9);
 }
 
-/// Both give the same answers to each query, and so do the lookup and the search without its checks. Counts 000's distances.
+/// Both give the same answers to each query, and the same counts, and so do the lookup and the search without its checks. Prints the mean of the counts.
 fn agree<'a>(i: &'a Input, theirs: impl Fn(&'a [u8]) -> probe::Search<'a>, table: &[u32]) {
     let n = i.n;
+    let (mut expanded, mut measured) = (0, 0);
     for query in &i.queries {
-        let expected = probe::search(theirs(query));
+        let expected = probe::walk(theirs(query));
         for search in [ours::search as Found, ours::lookup, unchecked::search] {
             let call =
                 ours::Search { n, dim: DIM, vectors: &i.vectors, degree: PARAMS.degree, beam: BEAM, k: K, start: i.start, table, query };
-            let (mut words, mut floats) = (vec![0; 2 * n + 256], vec![0.0; n + 256]);
+            let (mut words, mut floats) = (vec![0; n + 512], vec![0.0; 512]);
             let (mut ids, mut dists) = (vec![0; K], vec![0.0; K]);
             let answer = search(call, &mut words, &mut floats, &mut ids, &mut dists);
             let pairs = ids.into_iter().zip(dists).take(answer.count);
-            assert!(answer.number == 0 && pairs.eq(expected.iter().copied()), "the answers");
+            assert!(answer.number == 0 && pairs.eq(expected.answers.iter().copied()), "the answers");
+            assert_eq!((answer.expanded, answer.measured), (expected.expanded, expected.measured), "the counts");
         }
-        probe::found(theirs(query), Counted);
+        expanded += expected.expanded;
+        measured += expected.measured;
+    }
+    for (what, all) in [("  rows of a search", expanded), ("  distances of a search", measured)] {
+        println!("{what:<28} 000 {:.1}", all as f64 / i.queries.len() as f64);
     }
 }
 
 fn main() {
-    let args: Vec<usize> = std::env::args().skip(1).map(|a| a.parse().expect("bench N QUERIES REPEATS")).collect();
-    let [n, queries, repeats] = args[..] else { panic!("bench N QUERIES REPEATS") };
+    let args: Vec<String> = std::env::args().skip(1).collect();
+    let numbers: Vec<usize> = args.iter().take(3).map(|a| a.parse().expect("bench N QUERIES REPEATS [search]")).collect();
+    let [n, queries, repeats] = numbers[..] else { panic!("bench N QUERIES REPEATS [search]") };
     println!("n {n}, dim {DIM}, degree 64, build beam 128, alpha 1.2, extra seeds 1; search beam {BEAM}, k {K}; {queries} queries, best of {repeats}");
     let i = input(n, queries);
     assert_eq!(i.start as usize, probe::medoid(n, DIM, &i.vectors, &i.pivots), "the start");
+    if args.len() > 3 {
+        return searches(&i, &built(&i), repeats);
+    }
     distances(&i, repeats);
     let (mut wide, closed) = builds(&i, repeats.min(if n > 2_000 { 2 } else { 5 }));
     rule(&i, &mut wide, repeats);

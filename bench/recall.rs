@@ -1,4 +1,5 @@
-//! What a beam brings and costs: the recall of ten by the report itself, and the time of a lookup with that beam beside an exhaustive search's.
+//! What a beam brings and costs: the recall of ten by the report itself, what a lookup with that beam expands and measures, and its time beside an exhaustive
+//! search's.
 //!
 //!     recall N QUERIES REPEATS
 mod clock;
@@ -23,19 +24,28 @@ struct Lent {
     dists: [f32; K],
 }
 
-/// The report of all queries, and the time of a lookup, in us.
-fn with_beam(i: &Input, table: &[u32], queries: &[u8], beam: usize, repeats: usize, lent: &mut Lent) -> (ours::Report, f64) {
+/// The report of all queries, and of a lookup, over all queries: entries expanded, distances worked out, and the time, in us.
+fn with_beam(i: &Input, table: &[u32], queries: &[u8], beam: usize, repeats: usize, lent: &mut Lent) -> (ours::Report, [f64; 3]) {
     let (n, degree, start, vectors) = (i.n, PARAMS.degree, i.start, &i.vectors[..]);
     let call = Recall { n, dim: DIM, vectors, degree, beam, k: K, start, table, queries };
     let report = ours::report(call, &mut lent.words, &mut lent.floats);
     assert_eq!(report.number, 0);
+    let mut lookup = |query: &[u8]| {
+        let call = Search { n, dim: DIM, vectors, degree, beam, k: K, start, table, query };
+        black_box(ours::lookup(black_box(call), &mut lent.words, &mut lent.floats, &mut lent.ids, &mut lent.dists))
+    };
+    let (mut expanded, mut measured) = (0, 0);
+    for query in &i.queries {
+        let answer = lookup(query);
+        expanded += answer.expanded;
+        measured += answer.measured;
+    }
     let time = best(repeats, || {
         for query in &i.queries {
-            let call = Search { n, dim: DIM, vectors, degree, beam, k: K, start, table, query };
-            black_box(ours::lookup(black_box(call), &mut lent.words, &mut lent.floats, &mut lent.ids, &mut lent.dists));
+            lookup(query);
         }
     });
-    (report, time * 1e6 / i.queries.len() as f64)
+    (report, [expanded as f64, measured as f64, time * 1e6].map(|all| all / i.queries.len() as f64))
 }
 
 /// The time of an exhaustive search, in us; a tenth of the queries is enough for it.
@@ -56,13 +66,17 @@ fn main() {
     println!("n {n}, dim {DIM}, degree 64, build beam 128, alpha 1.2, extra seeds 1; k {K}; {queries} queries, best of {repeats}");
     let i = input(n, queries);
     let table = built(&i);
-    let mut lent = Lent { words: vec![0; 2 * n + 768], floats: vec![0.0; n + 768], ids: [0; K], dists: [0.0; K] };
+    let mut lent = Lent { words: vec![0; n + 1_024], floats: vec![0.0; 1_024], ids: [0; K], dists: [0.0; K] };
     let all = i.queries.concat();
-    println!("{:>10} {:>9} {:>9} {:>9} {:>9} {:>12}", "beam", "asked", "found", "whole", "recall", "lookup, us");
+    println!(
+        "{:>10} {:>9} {:>9} {:>9} {:>9} {:>9} {:>9} {:>12}",
+        "beam", "asked", "found", "whole", "recall", "expanded", "measured", "lookup, us"
+    );
     for beam in BEAMS {
-        let (r, time) = with_beam(&i, &table, &all, beam, repeats, &mut lent);
+        let (r, [expanded, measured, time]) = with_beam(&i, &table, &all, beam, repeats, &mut lent);
         let recall = r.found as f64 / r.asked as f64;
-        println!("{beam:>10} {:>9} {:>9} {:>9} {recall:>9.4} {time:>12.3}", r.asked, r.found, r.whole);
+        println!("{beam:>10} {:>9} {:>9} {:>9} {recall:>9.4} {expanded:>9.1} {measured:>9.1} {time:>12.3}", r.asked, r.found, r.whole);
     }
-    println!("{:>10} {:>9} {:>9} {:>9} {:>9} {:>12.3}", "exhaustive", "", "", "", "1.0000", exhausted(&i, repeats, &mut lent));
+    let time = exhausted(&i, repeats, &mut lent);
+    println!("{:>10} {:>9} {:>9} {:>9} {:>9} {:>9} {n:>9} {time:>12.3}", "exhaustive", "", "", "", "1.0000", "");
 }
