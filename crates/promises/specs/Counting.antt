@@ -14,7 +14,7 @@ use Rattle.definition.specs.declared.Candidate.{Candidate}
 use Rattle.definition.specs.Tables.{pad}
 use Rattle.definition.specs.Floats.{nought}
 use Rattle.definition.specs.Beam.{Item, item, best}
-use Rattle.definition.specs.Greedy.{State, visitedIds, begin, step, stops, steps}
+use Rattle.definition.specs.Greedy.{State, visitedIds, begin, step, stops, steps, greedy}
 use Rattle.definition.specs.Search.{searched}
 use Rattle.definition.specs.Refusals.{DistanceCall, BatchCall, OpenCall, CloseCall, BuildCall, MedoidCall, SearchCall, FitCall, ExhaustiveCall}
 use Rattle.definition.specs.Refusals.{RowsCall, SeedsCall, DrawsCall, searchNumber, recordsNumber}
@@ -34,7 +34,7 @@ use Rattle.laws.specs.Tables.{row-length}
 use Rattle.theory.specs.search.Ground.{Ground}
 use Rattle.theory.specs.search.Along.{Kept, step-expands}
 use Rattle.theory.specs.search.Ends.{begun-keeps, steps-stay, steps-add, greedy-enough, greedy-keeps, visited-below}
-use Rattle.theory.specs.search.Counted.{visited-most, expanded-within, visited-few}
+use Rattle.theory.specs.search.Counted.{visited-most, expanded-within, visited-few, beam-one-begins}
 use Rattle.theory.specs.search.Left.{left-unexpanded, BestUnexpanded, step-from-work}
 use Rattle.accepted.specs.Search.{SearchAccepted, ground, search-accepted, records-accepted}
 use Rattle.promises.specs.Searching.{rowsOf, distanceTo}
@@ -197,6 +197,20 @@ records-counts-walk c rs o m = answered-walk (records-answered c rs (o .plain) (
 
 pub lookup-counts-walk : (c : SearchCall) (o : SearchOut) → LookupMeets c o → CountsWalk (walked (cleanedCall c)) (o .answer)
 lookup-counts-walk c o m = answered-walk (lookup-answered c (o .answer) (m .answer-is))
+
+-- a beam of 1, as which 0 acts, is full with the start: nothing is expanded, and one distance is worked out
+beam-one-walked : (c : SearchCall) → c .beam ≤ 1 → walked c ≡ begin (distanceTo c) 1 (c .start)
+unfolding walked searched
+beam-one-walked c h =
+    let one : max (c .beam) 1 ≡ 1 = omega arith in
+    ap (λ (b : ℕ). greedy (distanceTo c) (rowsOf c) (c .n) b (c .start)) one ∙ beam-one-begins (distanceTo c) (rowsOf c) (c .n) (c .start)
+
+pub beam-one-counts : (c : SearchCall) (a : Answer) → CountsWalk (walked c) a → c .beam ≤ 1 → a .number ≡ 0 → (a .expanded ≡ 0) × (a .measured ≡ 1)
+unfolding begin
+beam-one-counts c a w h z = (
+  w .expanded-is z ∙ ap (λ (s : State). length (s .expanded)) (beam-one-walked c h),
+  w .measured-is z ∙ ap (λ (s : State). length (s .visited)) (beam-one-walked c h),
+)
 
 -- ---- every other public call counts nothing, accepted or refused; a report has no such counts
 

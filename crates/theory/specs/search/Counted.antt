@@ -1,12 +1,15 @@
 -- How many entries a greedy search visits and expands, over any distance and any rows of ids below n and padding; beam 0 included. Each is visited at most
 -- once and expanded at most once; a row of w words leads to at most w that are new, and the start is the one that no row led to.
-use Prim.Native.Nat.{ℕ, suc, _+_, _*_, _≤_, _<_}
+use Prim.Native.Nat.{ℕ, zero, suc, _+_, _*_, _≤_, _<_}
 use native.Mathlib.Nat.{mul-suc}
 use native.Mathlib.Omega.{arith}
+use mathlib.Core.Path.{_≡_, refl}
 use mathlib.Core.List.{List, [], _∷_}
+use borrow.Author.Tests.{le-ltb}
 use lib.ListN.{length, length-map, length-append}
-use Rattle.definition.specs.Beam.{Item, item, best}
-use Rattle.definition.specs.Greedy.{State, begin, meet, look, expand, popped, step, greedy}
+use Rattle.definition.specs.Lists.{place}
+use Rattle.definition.specs.Beam.{Item, item, insert, insertCapped, best, beatsWorst}
+use Rattle.definition.specs.Greedy.{State, begin, meet, look, expand, popped, step, filled, stops, steps, greedy}
 use Rattle.laws.specs.Apart.{apart-within, apart-below}
 use Rattle.laws.specs.Items.{idsOf, ids-elim, best-in}
 use Rattle.theory.specs.search.Ground.{Ground}
@@ -54,3 +57,9 @@ module _ (g : Ground) where
     pub visited-few : length (greedy d rows n beam start .visited) ≤ 1 + w * length (greedy d rows n beam start .expanded)
     unfolding greedy begin
     visited-few = steps-keep g Few (λ s e some v few. step-few s some (v .kept) few) n (begin d beam start) (begin-keeps g) (omega arith)
+
+-- ---- a beam of 1 is full with the start, which is as far as its worst: nothing is expanded, and the start is all that is visited
+pub beam-one-begins : (d : ℕ → ℕ) (rows : ℕ → List ℕ) (n start : ℕ) → greedy d rows n 1 start ≡ begin d 1 start
+unfolding greedy steps stops filled begin insertCapped insert place best beatsWorst
+beam-one-begins d rows zero start = refl
+beam-one-begins d rows (suc n) start = rw (le-ltb (d start) (d start) (omega arith)) refl
