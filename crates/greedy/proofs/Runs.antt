@@ -117,8 +117,8 @@ module _ {p : Plan} {epoch : ℕ} {dist : ℕ → ℕ} {rows : ℕ → List ℕ}
         stepped-is : (st : State) → Is p epoch s st → Is p epoch s₂ (stepped st)
         stepped-is st is =
             let best-is = pop .id-is found (p .n) st (is .working) .0 in
-            subst (Is p epoch s₂) (ap (λ (t : State). expand dist (p .beam) t (rows (r .id))) (noted-popped st best-is) ∙ sym (step-is dist rows (p .beam) st (r .id) best-is))
-            (m .moves (taken st) (taken-is st is))
+            let same = ap (λ (t : State). expand dist (p .beam) t (rows (r .id))) (noted-popped st best-is) in
+            subst (Is p epoch s₂) (same ∙ sym (step-is dist rows (p .beam) st (r .id) best-is)) (m .moves (taken st) (taken-is st is))
 
         one-more : s₂ .counts .expanded ≡ suc (s .counts .expanded)
         unfolding noted

@@ -9,7 +9,8 @@ use Rattle.definition.specs.Lists.{over}
 use Rattle.definition.specs.Metric.{whole}
 use Rattle.definition.specs.Beam.{Item}
 use Rattle.definition.specs.Refusals.{SearchCall, searchNumber}
-use Rattle.definition.specs.Outcome.{SearchOut, SearchMeets, found, foundIds, foundDists, byNumber, searchOut, searchKept, searchDone, searchAnswer, refused, answer}
+use Rattle.definition.specs.Outcome.{SearchOut, SearchMeets, found, foundIds, foundDists, searchOut, searchKept, searchDone}
+use Rattle.definition.specs.Outcome.{byNumber, searchAnswer, refused, answer}
 use Rattle.laws.specs.Mapped.{map-at}
 use Rattle.accepted.specs.Outcomes.{said-number}
 

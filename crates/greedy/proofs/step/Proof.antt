@@ -70,8 +70,7 @@ expand-requires c κs =
     let s = called q in
     let g = s .pre .1 .1 .0 in
     let from = s .args .id * s .args .p .width in
-    let size = part-length from (from + s .args .p .width) (s .args .table .now) (fits q .0) in
-    (
+    let size = part-length from (from + s .args .p .width) (s .args .table .now) (fits q .0) in (
       noted-ready (s .pre .0),
       (noted-live (s .args .id) (s .pre .1 .0), (g .measures, record { ids-fit = omega (arith, size, g .narrow); dists-fit = omega arith; few = omega arith })),
     )
