@@ -1,32 +1,34 @@
--- One query: what its two searches leave may be marked and counted, and what is counted is the definition's number of hits. The marks lie in a search's room.
+-- One query: its walk may be made, and what that and the exhaustive search leave may be marked and counted; what is counted are the definition's hits. The
+-- marks are left so that the next query may follow.
 use Prim.Native.Nat.{ℕ, _+_, _-_, _≤_, _<_, zero-le}
+use native.Mathlib.Nat.{zero-add}
 use native.Mathlib.Omega.{arith}
-use mathlib.Core.Path.{_≡_, refl, sym, ap, ap₂, _∙_, subst}
+use mathlib.Core.Path.{_≡_, sym, ap, ap₂, _∙_, subst}
 use mathlib.Core.List.{List, List·Memᴰ as Mem}
 use borrow.Rule.Slice.PartMut.{putMid}
 use lib.Ieee.{Float}
 use lib.ListN.{length, getD, take, drop, length-append, length-map, length-take, List·getD-append}
-use Rattle.definition.specs.Lists.{over, cleared}
-use Rattle.definition.specs.Floats.{nought}
+use Rattle.definition.specs.Lists.{over}
 use Rattle.definition.specs.Beam.{Item, nobody}
 use Rattle.definition.specs.Recall.{inBoth, hits}
-use Rattle.definition.specs.Refusals.{SearchCall, ExhaustiveCall, ReportCall, searchWords, searchFloats, mostAnswers}
-use Rattle.definition.specs.Outcome.{SearchOut, ExhaustiveOut, answer, found, foundIds, searchDone, nearestTo, exhaustiveDone}
+use Rattle.definition.specs.Refusals.{SearchCall, ExhaustiveCall, ReportCall, mostAnswers}
+use Rattle.definition.specs.Outcome.{ExhaustiveOut, answer, found, foundIds, cleanedCall, nearestTo, exhaustiveDone}
 use Rattle.laws.specs.Members.{mem-at}
 use Rattle.laws.specs.Mapped.{map-at}
 use Rattle.laws.specs.Items.{idsOf}
 use Rattle.laws.specs.Writing.{over-front}
-use Rattle.laws.specs.Filled.{cleared-at, cleared-length, cleared-beyond}
-use Rattle.laws.specs.Parts.{part, part-length, part-at, within-wider, within-trans, put-within}
+use Rattle.laws.specs.Parts.{part, part-front-length, part-at, within-wider, within-trans, put-within, put-part}
+use Rattle.theory.specs.build.Walks.{epochEnd}
 use Rattle.theory.specs.recall.Nearest.{nearest-own}
 use Rattle.theory.specs.recall.Brought.{both-most}
-use Rattle.accepted.specs.Search.{SearchAccepted, search-answers}
-use Rattle.accepted.specs.Recall.{ExhaustiveAccepted}
-use Rattle.scratch.specs.Lent.{lent}
-use Rattle.search.specs.Statement.{Searched}
+use Rattle.accepted.specs.Search.{cleaned-call, search-answers}
+use Rattle.scratch.specs.Layout.{visitedAt}
+use Rattle.marks.specs.Marked.{Marks}
+use Rattle.search.specs.declared.Found.{Found}
+use Rattle.search.specs.Answering.{Walkable, accepted-walkable, Answered}
 use Rattle.exhaustive.specs.Statement.{Exhausted}
-use Rattle.recall.specs.Marks.{Places, Unmarked}
-use Rattle.recall.specs.Asking.{searchBy, exhaustiveBy, hitsOf, RoomKept}
+use Rattle.recall.specs.Marks.{Places, Unmarked, CountedBoth}
+use Rattle.recall.specs.Asking.{searchBy, exhaustiveBy, QueryAccepted, Recalled}
 
 -- ---- items listed over the front of an output, each an entry below n
 module _ (items : List Item) (out ids : List ℕ) (count : ℕ) (ids-are : ids ≡ over (idsOf items) out) (count-is : count ≡ length items) where
@@ -49,77 +51,6 @@ module _ (items : List Item) (out ids : List ℕ) (count : ℕ) (ids-are : ids �
           ap (λ (l : List ℕ). getD l j 0) ids-are ∙ List·getD-append (idsOf items) (drop (length (idsOf items)) out) 0 j (omega (arith, size))
           ∙ map-at (λ (a : Item). a .id) nobody 0 items j (omega arith)
 
--- ---- what the search leaves
-module _ (c : SearchCall) (o : SearchOut) (s : Searched c o) where
-  found-count : o .answer .count ≡ length (found c)
-  unfolding searchDone answer
-  found-count = ap (λ (x : SearchOut). x .answer .count) (s .is)
-
-  found-over : o .ids ≡ over (idsOf (found c)) (c .ids)
-  unfolding searchDone foundIds
-  found-over = ap (λ (x : SearchOut). x .ids) (s .is)
-
-  words-cleared : o .words ≡ cleared 0 (searchWords (c .n)) (c .words)
-  unfolding searchDone
-  words-cleared = ap (λ (x : SearchOut). x .words) (s .is)
-
-  floats-cleared : o .floats ≡ cleared nought (searchFloats (c .n)) (c .floats)
-  unfolding searchDone
-  floats-cleared = ap (λ (x : SearchOut). x .floats) (s .is)
-
-  pub found-first : take (o .answer .count) (o .ids) ≡ idsOf (found c)
-  found-first = listed-first (found c) (c .ids) (o .ids) (o .answer .count) found-over found-count
-
-  module _ (a : SearchAccepted c) where
-    words-size : length (o .words) ≡ length (c .words)
-    unfolding searchWords
-    words-size = ap length words-cleared ∙ cleared-length 0 (searchWords (c .n)) (c .words) (a .word-room)
-
-    floats-size : length (o .floats) ≡ length (c .floats)
-    unfolding searchFloats
-    floats-size = ap length floats-cleared ∙ cleared-length nought (searchFloats (c .n)) (c .floats) (a .float-room)
-
-    pub marks-fit : c .n ≤ length (o .words)
-    marks-fit = omega (arith, words-size, a .word-room)
-
-    -- as many marks as entries
-    pub marks-size : length (part 0 (c .n) (o .words)) ≡ c .n
-    marks-size = part-length 0 (c .n) (o .words) marks-fit ∙ omega arith
-
-    pub marks-zero : Unmarked (part 0 (c .n) (o .words))
-    unfolding searchWords
-    marks-zero =
-        record {
-          zero-at = λ i h. part-at 0 (c .n) (o .words) i 0 (omega (arith, marks-size))
-              ∙ ap (λ (l : List ℕ). getD l (0 + i) 0) words-cleared
-              ∙ cleared-at 0 (searchWords (c .n)) (c .words) (0 + i) 0 (omega (arith, marks-size));
-        }
-
-    pub found-places : Places (o .ids) (o .answer .count) (length (part 0 (c .n) (o .words)))
-    found-places =
-        subst (Places (o .ids) (o .answer .count)) (sym marks-size)
-        (listed-places (found c) (c .ids) (o .ids) (o .answer .count) found-over found-count (c .n) (λ x m. search-answers c a x m .1))
-
-    -- the marks came back as ys
-    pub room-kept : (ys : List ℕ) → length ys ≡ length (part 0 (c .n) (o .words))
-        → RoomKept (c .n) (lent (c .words) (c .floats)) (lent (putMid 0 (c .n - 0) (o .words) ys) (o .floats))
-    unfolding searchWords searchFloats
-    room-kept ys same =
-        record {
-          words = within-trans 0 _ (c .words) (o .words) _
-              (record {
-                size = words-size;
-                below = refl;
-                above = ap (drop (searchWords (c .n))) words-cleared ∙ cleared-beyond 0 (searchWords (c .n)) (c .words);
-              })
-              (within-wider 0 (c .n) (o .words) _ (put-within 0 (c .n) (o .words) ys zero-le marks-fit same) 0 _ zero-le (omega arith));
-          floats = record {
-            size = floats-size;
-            below = refl;
-            above = ap (drop (searchFloats (c .n))) floats-cleared ∙ cleared-beyond nought (searchFloats (c .n)) (c .floats);
-          };
-        }
-
 -- ---- what the exhaustive search leaves
 module _ (e : ExhaustiveCall) (o : ExhaustiveOut) (s : Exhausted e o) where
   nearest-count : o .answer .count ≡ length (nearestTo e)
@@ -133,22 +64,96 @@ module _ (e : ExhaustiveCall) (o : ExhaustiveOut) (s : Exhausted e o) where
   pub nearest-first : take (o .answer .count) (o .ids) ≡ idsOf (nearestTo e)
   nearest-first = listed-first (nearestTo e) (e .ids) (o .ids) (o .answer .count) nearest-over nearest-count
 
-  pub nearest-places : (long : ℕ) → long ≡ e .n → Places (o .ids) (o .answer .count) long
+  pub nearest-places : Places (o .ids) (o .answer .count) (e .n)
   unfolding nearestTo
-  nearest-places long q =
-      subst (Places (o .ids) (o .answer .count)) (sym q)
-      (listed-places (nearestTo e) (e .ids) (o .ids) (o .answer .count) nearest-over nearest-count (e .n) (λ x m. nearest-own _ (e .n) (e .k) x m .1))
+  nearest-places =
+      listed-places (nearestTo e) (e .ids) (o .ids) (o .answer .count) nearest-over nearest-count (e .n) (λ x m. nearest-own _ (e .n) (e .k) x m .1)
 
--- ---- both: what is counted are the hits
-module _ (c : ReportCall) (ids near : List ℕ) (dists near-dists : List Float) (a : ExhaustiveAccepted (exhaustiveBy c near near-dists))
-    (o : SearchOut) (s : Searched (searchBy c ids dists) o) (p : ExhaustiveOut) (e : Exhausted (exhaustiveBy c near near-dists) p) (r : ℕ)
-    (is : r ≡ inBoth (take (o .answer .count) (o .ids)) (take (p .answer .count) (p .ids))) where
-  pub hits-are : r ≡ hitsOf c
-  unfolding hits found nearestTo
-  hits-are = is ∙ ap₂ inBoth (found-first (searchBy c ids dists) o s) (nearest-first (exhaustiveBy c near near-dists) p e)
+-- ---- the query
 
-  pub hits-few : r ≤ 256
-  unfolding mostAnswers
-  hits-few =
-      let most = both-most (take (o .answer .count) (o .ids)) (take (p .answer .count) (p .ids)) in
-      omega (arith, is, most, length-take (o .answer .count) (o .ids), s .few, a .k-few)
+front-at : (n : ℕ) (l : List ℕ) (i : ℕ) → i < n → getD (part 0 n l) i 0 ≡ getD l i 0
+front-at n l i h = part-at 0 n l i 0 (omega arith) ∙ ap (λ (j : ℕ). getD l j 0) (zero-add i)
+
+module _ {c : ReportCall} {ids near : List ℕ} {dists apart : List Float} (a : QueryAccepted c ids dists near apart) where
+  abbrev asked : SearchCall
+  asked = searchBy c ids dists
+
+  -- its table keeps the search rule
+  same-call : cleanedCall asked ≡ asked
+  same-call = cleaned-call asked (a .search .ruled)
+
+  pub walk-room : {epoch : ℕ} → (epoch + 2 < epochEnd) × Marks (c .n) (c .words) epoch
+      → Walkable (cleanedCall asked) × ((epoch + 1 < epochEnd) × Marks (c .n) (c .words) epoch)
+  walk-room (fits, marks) =
+      (subst Walkable (sym same-call) (accepted-walkable _ (a .search) (c .words) (omega (arith, a .search .word-room))), (omega arith, marks))
+
+  -- `after` are the words that the walk leaves, `outs` its answers
+  module _ {epoch : ℕ} {after : List ℕ} {outs : _} {r : Found} (answered : Answered (cleanedCall asked) epoch after outs r) where
+    walk : Answered asked epoch after outs r
+    walk = subst (λ (s : SearchCall). Answered s epoch after outs r) same-call answered
+
+    pub marks-fit : c .n ≤ length after
+    marks-fit = omega (arith, walk .kept .size, a .search .word-room)
+
+    -- as many marks as entries
+    marks-size : length (part 0 (c .n) after) ≡ c .n
+    marks-size = part-front-length (c .n) after marks-fit
+
+    found-over : outs .ids ≡ over (idsOf (found asked)) ids
+    unfolding foundIds
+    found-over = walk .ids-are
+
+    found-places : Places (outs .ids) (r .count) (c .n)
+    unfolding found
+    found-places =
+        listed-places (found asked) ids (outs .ids) (r .count) found-over (walk .count-is) (c .n) (λ x m. search-answers _ (a .search) x m .1)
+
+    -- `next` is the epoch of the nearest, which are in `near-out`
+    module _ {next : ℕ} (next-is : next ≡ r .epoch + 1) {near-out : ExhaustiveOut} (exhausted : Exhausted (exhaustiveBy c near apart) near-out) where
+      next-new : Unmarked next (part 0 (c .n) after)
+      next-new =
+          record {
+            below-at = λ i h.
+                let k : i < c .n = omega (arith, marks-size) in
+                omega (arith, front-at (c .n) after i k, walk .marks i k, next-is);
+          }
+
+      pub both-room : Unmarked next (part 0 (c .n) after)
+          × (Places (outs .ids) (r .count) (length (part 0 (c .n) after)) × Places (near-out .ids) (near-out .answer .count) (length (part 0 (c .n) after)))
+      both-room = (next-new, rw marks-size (found-places, nearest-places (exhaustiveBy c near apart) near-out exhausted))
+
+      -- the marks came back as `marks`
+      module _ (marks : List ℕ) (same : length marks ≡ length (part 0 (c .n) after)) {h : ℕ}
+          (both : CountedBoth next (take (r .count) (outs .ids)) (take (near-out .answer .count) (near-out .ids)) marks h) where
+        abbrev left : List ℕ
+        left = putMid 0 (c .n - 0) after marks
+
+        marks-left : Marks (c .n) left next
+        marks-left i k =
+            omega (
+              arith,
+              front-at (c .n) left i k,
+              ap (λ (l : List ℕ). getD l i 0) (put-part 0 (c .n) after marks zero-le marks-fit same),
+              both .marks-le i (omega (arith, same, marks-size)),
+            )
+
+        pub recalled : Recalled c epoch left (record { epoch = next; hits = h })
+        unfolding hits found nearestTo mostAnswers
+        recalled =
+            record {
+              epoch-is = omega (arith, next-is, walk .epoch-is);
+              hits-are = both .is
+                  ∙ ap₂ inBoth (listed-first (found asked) ids (outs .ids) (r .count) found-over (walk .count-is))
+                  (nearest-first (exhaustiveBy c near apart) near-out exhausted);
+              few = omega (
+                arith,
+                both .is,
+                both-most (take (r .count) (outs .ids)) (take (near-out .answer .count) (near-out .ids)),
+                length-take (r .count) (outs .ids),
+                walk .few,
+                a .nearest .k-few,
+              );
+              marks = marks-left;
+              kept = within-trans 0 (visitedAt (c .n)) (c .words) after left (walk .kept)
+                  (within-wider 0 (c .n) after left (put-within 0 (c .n) after marks zero-le marks-fit same) 0 (visitedAt (c .n)) zero-le (omega arith));
+            }

@@ -1,51 +1,41 @@
 -- A report, from the tally of its queries and its room left zero; and the public statement from its number.
-use Prim.Native.Nat.{ℕ, _*_, _≤_}
+use Prim.Native.Nat.{ℕ, _*_}
 use native.Mathlib.Omega.{arith}
 use mathlib.Core.Path.{_≡_, refl, sym, ap, _∙_}
+use mathlib.Core.List.{List, []}
 use lib.ListN.{length}
 use Rattle.definition.specs.declared.Report.{Report}
 use Rattle.definition.specs.Lists.{cleared}
 use Rattle.definition.specs.Floats.{nought}
 use Rattle.definition.specs.Refusals.{ReportCall, reportNumber, reportWords, reportFloats}
-use Rattle.definition.specs.Outcome.{ReportOut, reported, queryCount, askedEach, allHits, reportKept, reportDone, reportOut, ReportMeets}
+use Rattle.definition.specs.Outcome.{ReportOut, reported, queryCount, askedEach, hitsAt, allHits, reportKept, reportDone, reportOut, ReportMeets}
 use Rattle.laws.specs.Parts.{drop-more}
 use Rattle.laws.specs.Filled.{cleared-same}
 use Rattle.accepted.specs.Outcomes.{by-refusal, by-success}
 use Rattle.accepted.specs.Recall.{ReportAccepted, report-accepted}
 use Rattle.scratch.specs.Lent.{Lent}
-use Rattle.scratch.specs.Layout.{searchEnd, searchFloatsEnd, reportEnd, reportFloatsEnd, report-words-end, report-floats-end}
+use Rattle.scratch.specs.Layout.{visitedAt, reportEnd, reportFloatsEnd, report-words-end, report-floats-end}
 use Rattle.scratch.specs.Clear.{FrontClear}
 use Rattle.checks_recall.specs.ReportNumber.{ReportNumbered}
 use Rattle.recall.specs.declared.Tally.{Tally}
-use Rattle.recall.specs.Asking.{outOf, Tallied}
+use Rattle.recall.specs.Asking.{lending, outOf, Tallied}
 
--- ---- what is left: c is the report, `mid` what the queries leave of its room
-module _ (c : ReportCall) (a : ReportAccepted c) (count each : ℕ) (count-is : count ≡ queryCount c) (each-is : each ≡ askedEach c) (mid : Lent) (t : Tally)
-    (tallied : Tallied c count mid t) where
-  pub clear-room : (reportEnd (c .n) ≤ length (mid .words)) × (reportFloatsEnd (c .n) ≤ length (mid .floats))
-  clear-room =
-      (omega (arith, a .word-room, tallied .kept .words .size), omega (arith, a .float-room, tallied .kept .floats .size))
+-- ---- what is left: c is the report, `mid` what the queries leave of its words, of which w were cleared, and the floats with them
+module _ (c : ReportCall) {count each : ℕ} (count-is : count ≡ queryCount c) (each-is : each ≡ askedEach c) {mid : List ℕ} {t : Tally}
+    (tallied : Tallied (lending c (c .queries) (c .words) []) count mid t) {after : Lent} {w : ℕ} (w-is : w ≡ reportEnd (c .n))
+    (front : FrontClear w reportFloatsEnd mid (c .floats) (after .words) (after .floats)) where
+  words-are : after .words ≡ cleared 0 (reportWords (c .n)) (c .words)
+  words-are =
+      front .words-are ∙ ap (λ (m : ℕ). cleared 0 m mid) w-is
+      ∙ cleared-same 0 (reportEnd (c .n)) mid (c .words) (drop-more (visitedAt (c .n)) (reportEnd (c .n)) _ _ (omega arith) (tallied .kept .above))
+      ∙ ap (λ (m : ℕ). cleared 0 m (c .words)) (report-words-end (c .n))
 
-  -- it was cleared up to w and f
-  module _ (after : Lent) (w f : ℕ) (w-is : w ≡ reportEnd (c .n)) (f-is : f ≡ reportFloatsEnd (c .n))
-      (front : FrontClear w f (mid .words) (mid .floats) (after .words) (after .floats)) where
-    words-are : after .words ≡ cleared 0 (reportWords (c .n)) (c .words)
-    words-are =
-        front .words-are ∙ ap (λ (m : ℕ). cleared 0 m (mid .words)) w-is
-        ∙ cleared-same 0 (reportEnd (c .n)) (mid .words) (c .words)
-        (drop-more (searchEnd (c .n)) (reportEnd (c .n)) _ _ (omega arith) (tallied .kept .words .above))
-        ∙ ap (λ (m : ℕ). cleared 0 m (c .words)) (report-words-end (c .n))
+  floats-are : after .floats ≡ cleared nought reportFloats (c .floats)
+  floats-are = front .floats-are ∙ ap (λ (m : ℕ). cleared nought m (c .floats)) report-floats-end
 
-    floats-are : after .floats ≡ cleared nought (reportFloats (c .n)) (c .floats)
-    floats-are =
-        front .floats-are ∙ ap (λ (m : ℕ). cleared nought m (mid .floats)) f-is
-        ∙ cleared-same nought (reportFloatsEnd (c .n)) (mid .floats) (c .floats)
-        (drop-more (searchFloatsEnd (c .n)) (reportFloatsEnd (c .n)) _ _ (omega arith) (tallied .kept .floats .above))
-        ∙ ap (λ (m : ℕ). cleared nought m (c .floats)) (report-floats-end (c .n))
-
-    pub done-is : (r : Report) → r ≡ reported 0 count (count * each) (t .found) (t .whole) → outOf r (after .words) (after .floats) ≡ reportDone c
-    unfolding reportDone allHits
-    done-is r e = let w = words-are in let s = floats-are in cc
+  pub done-is : {r : Report} → r ≡ reported 0 count (count * each) (t .found) (t .whole) → outOf r (after .words) (after .floats) ≡ reportDone c
+  unfolding reportDone allHits hitsAt askedEach
+  done-is e = let w = words-are in let s = floats-are in let f = tallied .found-is in let h = tallied .whole-is in cc
 
 -- ---- the public statement
 meets : (c : ReportCall) (o : ReportOut) → o ≡ reportOut c → ReportMeets c o

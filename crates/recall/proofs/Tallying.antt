@@ -1,8 +1,10 @@
--- The loop over the queries: query q is lent as its part of the bytes, and one query more is one number more, added and counted.
+-- The loop over the queries: query q is lent as its part of the bytes, and one query more is one number more, added and counted. No mark is above the epoch,
+-- which is two further with each query.
 use Prim.Native.Nat.{ℕ, _+_, _-_, _*_, _≤_, _<_}
 use native.Mathlib.Omega.{arith}
 use mathlib.Core.Path.{_≡_, refl, sym, ap, _∙_}
-use mathlib.Core.List.{List, map}
+use mathlib.Core.Logic.{_⊎_, inl, inr}
+use mathlib.Core.List.{List, [], map}
 use lib.Ieee.{Float}
 use lib.ListN.{length, take, drop}
 use Rattle.definition.specs.Lists.{upto, run, total, keep}
@@ -14,44 +16,24 @@ use Rattle.definition.specs.Outcome.{queryCount, askedEach, hitsAt}
 use Rattle.laws.specs.Parts.{part, part-length, within-trans, within-none}
 use Rattle.laws.specs.Tables.{row-fits}
 use Rattle.laws.specs.Sums.{total-upto}
+use Rattle.theory.specs.build.Walks.{epochEnd}
 use Rattle.theory.specs.recall.Counted.{count-same, count-other}
-use Rattle.accepted.specs.Recall.{ReportAccepted}
-use Rattle.scratch.specs.Lent.{Lent, lent}
-use Rattle.recall.specs.Asking.{RoomKept, Tallied}
-
--- query q, as it is lent
-abbrev pub lentQuery : ReportCall → ℕ → List ℕ
-lentQuery c q = part (q * c .dim) (q * c .dim + c .dim) (c .queries)
-
-module _ (c : ReportCall) (q : ℕ) where
-  lent-is : lentQuery c q ≡ vector (c .dim) (c .queries) q
-  unfolding vector
-  lent-is = let e : q * c .dim + c .dim - q * c .dim ≡ c .dim = omega arith in ap (λ (m : ℕ). take m (drop (q * c .dim) (c .queries))) e
-
-  pub hits-at : hits (fromQuery (c .dim) (c .vectors) (lentQuery c q)) (row (c .degree) (c .table)) (c .n) (c .beam) (c .start) (c .k) ≡ hitsAt c q
-  unfolding hitsAt
-  hits-at = ap (λ (l : List ℕ). hits (fromQuery (c .dim) (c .vectors) l) (row (c .degree) (c .table)) (c .n) (c .beam) (c .start) (c .k)) lent-is
-
--- it lies within the bytes
-pub query-fits : (c : ReportCall) → ReportAccepted c → (q : ℕ) → q < queryCount c → q * c .dim + c .dim ≤ length (c .queries)
-query-fits c a q h = omega (arith, row-fits q (queryCount c) (c .dim) h, a .queries-are)
-
-pub query-long : (c : ReportCall) → ReportAccepted c → (q : ℕ) → q < queryCount c → length (lentQuery c q) ≡ c .dim
-query-long c a q h = part-length (q * c .dim) (q * c .dim + c .dim) (c .queries) (query-fits c a q h) ∙ omega arith
-
-room-same : (n : ℕ) (l : Lent) → RoomKept n l l
-room-same n l = record { words = within-none 0 _ (l .words); floats = within-none 0 _ (l .floats) }
-
-room-through : (n : ℕ) (a b c : Lent) → RoomKept n a b → RoomKept n b c → RoomKept n a c
-room-through n a b c v w =
-    record { words = within-trans 0 _ _ _ _ (v .words) (w .words); floats = within-trans 0 _ _ _ _ (v .floats) (w .floats) }
+use Rattle.accepted.specs.Recall.{report-searches, report-exhausts}
+use Rattle.scratch.specs.Layout.{visitedAt}
+use Rattle.marks.specs.Marked.{Marks, FirstEpoch}
+use Rattle.marks.specs.Visits.{first-then}
+use Rattle.recall.specs.declared.Brought.{Brought}
+use Rattle.recall.specs.declared.Tally.{Tally}
+use Rattle.recall.specs.Asking.{lending, QueryAccepted, QueriesAccepted, Recalled, Tallied}
 
 -- ---- along the loop: what was counted is small, and the outputs are long enough for every query
-pub record Going (c : ReportCall) (count q found whole : ℕ) (now : Lent) : Type 0 where
+pub record Going (c : ReportCall) (count q epoch found whole : ℕ) (words : List ℕ) : Type 0 where
   pub most : q ≤ count
+  pub epoch-is : epoch ≡ 1 + 2 * q
   pub found-few : found ≤ 256 * q
   pub whole-few : whole ≤ q
-  pub tallied : Tallied c q now (record { found = found; whole = whole })
+  pub tallied : Tallied c q words (record { found = found; whole = whole })
+  pub marks : Marks (c .n) words epoch
 
 pub record Outputs (ids : List ℕ) (dists : List Float) (near : List ℕ) (apart : List Float) : Type 0 where
   pub ids-long : length ids ≡ 256
@@ -59,47 +41,99 @@ pub record Outputs (ids : List ℕ) (dists : List Float) (near : List ℕ) (apar
   pub near-long : length near ≡ 256
   pub apart-long : length apart ≡ 256
 
-pub go-start : (c : ReportCall) (count : ℕ) → Going c count 0 0 0 (lent (c .words) (c .floats))
+pub go-start : (c : ReportCall) (count : ℕ) {before : List ℕ} {epoch : ℕ} → FirstEpoch (c .n) before (c .words) epoch
+    → Going c count 0 epoch 0 0 (c .words)
 unfolding total countOf keep upto run
-go-start c count =
+go-start c count first =
     record {
       most = omega arith;
+      epoch-is = omega (arith, first .is);
       found-few = omega arith;
       whole-few = omega arith;
-      tallied = record { found-is = refl; whole-is = refl; kept = room-same (c .n) _ };
+      tallied = record { found-is = refl; whole-is = refl; kept = within-none 0 (visitedAt (c .n)) (c .words) };
+      marks = first .marks;
     }
 
--- one query more, of which r were found: they are all, or not
-module _ (c : ReportCall) (count each q : ℕ) (each-is : each ≡ askedEach c) (before after : Lent) (found whole r : ℕ)
-    (g : Going c count q found whole before) (more : q < count) (is : r ≡ hitsAt c q) (few : r ≤ 256) (kept : RoomKept (c .n) before after) where
-  more-found : found + r ≡ total (map (hitsAt c) (upto (q + 1)))
-  more-found = omega (arith, g .tallied .found-is, is, total-upto (hitsAt c) q)
+-- ---- query q of so many
+module _ {c : ReportCall} (accepted : QueriesAccepted c) {count : ℕ} (count-is : count ≡ queryCount c) {q : ℕ} (more : q < count) where
+  abbrev query : List ℕ
+  query = part (q * c .dim) (q * c .dim + c .dim) (c .queries)
 
-  stays : RoomKept (c .n) (lent (c .words) (c .floats)) after
-  stays = room-through (c .n) _ before after (g .tallied .kept) kept
+  -- it lies within the bytes
+  pub query-fits : q * c .dim + c .dim ≤ length (c .queries)
+  unfolding queryCount
+  query-fits =
+      let all : length (c .queries) ≡ count * c .dim = accepted .report .queries-are ∙ ap (λ (m : ℕ). m * c .dim) (sym count-is) in
+      omega (arith, row-fits q count (c .dim) more)
 
-  pub go-whole : r ≡ each → (w : ℕ) → w ≡ whole + 1 → Going c count (q + 1) (found + r) w after
-  go-whole e w v =
-      record {
-        most = omega arith;
-        found-few = omega (arith, g .found-few);
-        whole-few = omega (arith, g .whole-few);
-        tallied = record {
-          found-is = more-found;
-          whole-is = v ∙ ap (λ (m : ℕ). m + 1) (g .tallied .whole-is) ∙ sym (count-same (askedEach c) (hitsAt c) q (sym is ∙ e ∙ each-is));
-          kept = stays;
-        };
-      }
+  query-long : length query ≡ c .dim
+  query-long = part-length (q * c .dim) (q * c .dim + c .dim) (c .queries) query-fits ∙ omega arith
 
-  pub go-part : (r ≡ each → ⊥) → (w : ℕ) → w ≡ whole → Going c count (q + 1) (found + r) w after
-  go-part e w v =
-      record {
-        most = omega arith;
-        found-few = omega (arith, g .found-few);
-        whole-few = omega (arith, g .whole-few);
-        tallied = record {
-          found-is = more-found;
-          whole-is = v ∙ g .tallied .whole-is ∙ sym (count-other (askedEach c) (hitsAt c) q (λ h. e (is ∙ h ∙ sym each-is)));
-          kept = stays;
-        };
-      }
+  query-is : query ≡ vector (c .dim) (c .queries) q
+  unfolding vector
+  query-is = let e : q * c .dim + c .dim - q * c .dim ≡ c .dim = omega arith in ap (λ (m : ℕ). take m (drop (q * c .dim) (c .queries))) e
+
+  -- the marks were cleared, and the first q asked
+  module _ {begun : List ℕ} {one : ℕ} (first : FirstEpoch (c .n) (c .words) begun one) {epoch found whole : ℕ} {words : List ℕ}
+      (g : Going (lending c (c .queries) begun []) count q epoch found whole words) where
+    abbrev asked : ReportCall
+    asked = lending c query words []
+
+    pub query-room : {ids near : List ℕ} {dists apart : List Float} → Outputs ids dists near apart
+        → QueryAccepted asked ids dists near apart × ((epoch + 2 < epochEnd) × Marks (c .n) words epoch)
+    unfolding queryCount
+    query-room o =
+        let report = accepted .report in (
+          record {
+            floats = accepted .floats;
+            search = report-searches _ report query query-long words (accepted .floats) _ _
+                (omega (arith, g .tallied .kept .size, first .kept .size, report .word-room)) (omega (arith, report .float-room))
+                (omega (arith, o .ids-long)) (omega (arith, o .dists-long));
+            nearest = report-exhausts _ report query query-long _ _ (omega (arith, o .near-long)) (omega (arith, o .apart-long));
+          },
+          (omega (arith, g .epoch-is, report .queries-few, count-is), g .marks),
+        )
+
+    -- what it brought is added
+    module _ {after : List ℕ} {r : Brought} (b : Recalled asked epoch after r) {each : ℕ} (each-is : each ≡ askedEach c) where
+      hits-are : r .hits ≡ hitsAt c q
+      unfolding hitsAt
+      hits-are =
+          b .hits-are
+          ∙ ap (λ (l : List ℕ). hits (fromQuery (c .dim) (c .vectors) l) (row (c .degree) (c .table)) (c .n) (c .beam) (c .start) (c .k)) query-is
+
+      -- w is how many queries were whole before it, and one more where it is
+      pub go-on : {w : ℕ} → ((r .hits ≡ each) × (w ≡ whole + 1)) ⊎ ((r .hits ≡ each → ⊥) × (w ≡ whole))
+          → Going (lending c (c .queries) begun []) count (q + 1) (r .epoch) (found + r .hits) w after
+      unfolding hitsAt askedEach
+      go-on {w} came =
+          record {
+            most = omega arith;
+            epoch-is = omega (arith, b .epoch-is, g .epoch-is);
+            found-few = omega (arith, g .found-few, b .few);
+            whole-few = counted came .0;
+            tallied = record {
+              found-is = omega (arith, g .tallied .found-is, hits-are, total-upto (hitsAt c) q);
+              whole-is = counted came .1;
+              kept = within-trans 0 (visitedAt (c .n)) begun words after (g .tallied .kept) (b .kept);
+            };
+            marks = b .marks;
+          }
+        where
+          counted : ((r .hits ≡ each) × (w ≡ whole + 1)) ⊎ ((r .hits ≡ each → ⊥) × (w ≡ whole))
+              → (w ≤ q + 1) × (w ≡ countOf (askedEach c) (map (hitsAt c) (upto (q + 1))))
+          counted (inl (e, v)) = (
+            omega (arith, g .whole-few),
+            v ∙ ap (λ (m : ℕ). m + 1) (g .tallied .whole-is) ∙ sym (count-same (askedEach c) (hitsAt c) q (sym hits-are ∙ e ∙ each-is)),
+          )
+          counted (inr (e, v)) = (
+            omega (arith, g .whole-few),
+            v ∙ g .tallied .whole-is ∙ sym (count-other (askedEach c) (hitsAt c) q (λ h. e (hits-are ∙ h ∙ sym each-is))),
+          )
+
+-- ---- all were asked
+pub go-end : {c : ReportCall} {begun after : List ℕ} {one q : ℕ} {t : Tally} → FirstEpoch (c .n) (c .words) begun one
+    → Tallied (lending c (c .queries) begun []) q after t → Tallied c q after t
+unfolding hitsAt askedEach
+go-end {c} first t =
+    record { found-is = t .found-is; whole-is = t .whole-is; kept = first-then first (visitedAt (c .n)) (omega arith) (t .kept) }

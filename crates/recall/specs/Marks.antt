@@ -1,29 +1,31 @@
--- Marks: a word is 1 where its place is among some ids, else 0. So the marks at other ids add up to how many are in both.
+-- Marks: some ids are marked with an epoch above every mark. Then a mark is the epoch exactly where its place is among them; so the other ids whose mark it is
+-- are as many as are in both.
 use Prim.Native.Nat.{ℕ, _≤_, _<_}
 use mathlib.Core.Path.{_≡_}
 use mathlib.Core.List.{List}
 use lib.ListN.{length, getD}
-use Rattle.definition.specs.Lists.{isIn}
 use Rattle.definition.specs.Recall.{inBoth}
-use Rattle.laws.specs.Sums.{bit}
+use Rattle.marks.specs.Marked.{Marks, Seen}
 
 -- the first `count` of the ids are places of a list so long
 pub record Places (ids : List ℕ) (count long : ℕ) : Type 0 where
   pub few : count ≤ length ids
   pub inside : (j : ℕ) → j < count → getD ids j 0 < long
 
--- no word is a mark
-pub record Unmarked (words : List ℕ) : Type 0 where
-  pub zero-at : (i : ℕ) → i < length words → getD words i 0 ≡ 0
+-- every mark is below the epoch
+pub record Unmarked (epoch : ℕ) (words : List ℕ) : Type 0 where
+  pub below-at : (i : ℕ) → i < length words → getD words i 0 < epoch
 
--- the marks of xs
-pub record Marks (xs words : List ℕ) : Type 0 where
-  pub mark-at : (i : ℕ) → i < length words → getD words i 0 ≡ bit (isIn i xs)
+-- the marks of xs, and none is above the epoch
+pub record MarksOf (epoch : ℕ) (xs words : List ℕ) : Type 0 where
+  pub seen : Seen (length words) epoch words xs
+  pub marks-le : Marks (length words) words epoch
 
--- every word is 0 or 1
-pub record Bits (words : List ℕ) : Type 0 where
-  pub bit-at : (i : ℕ) → i < length words → getD words i 0 ≤ 1
+-- r is how many of xs have the epoch as their mark: where the marks are those of ys, how many are in both
+pub record Counted (epoch : ℕ) (words xs : List ℕ) (r : ℕ) : Type 0 where
+  pub is : (ys : List ℕ) → Seen (length words) epoch words ys → r ≡ inBoth xs ys
 
--- r is how many of xs have a mark: where the marks are those of ys, how many are in both
-pub record Counted (words xs : List ℕ) (r : ℕ) : Type 0 where
-  pub is : (ys : List ℕ) → Marks ys words → r ≡ inBoth xs ys
+-- r is how many are in both, and none of the marks that are left is above the epoch
+pub record CountedBoth (epoch : ℕ) (xs ys words : List ℕ) (r : ℕ) : Type 0 where
+  pub is : r ≡ inBoth xs ys
+  pub marks-le : Marks (length words) words epoch

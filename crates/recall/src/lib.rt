@@ -1,17 +1,20 @@
-// 1/13. Recall in plain figures: a search and an exhaustive search of each query, and how many of the true nearest the searches brought. The room serves every
-// search. When one is done its marks are zero, and serve once more: the nearest are marked, and the marks at the search's answers are added up. So no list is
-// held against another, and nothing here knows in what order answers stand.
+// 1/13. Recall in plain figures: a search and an exhaustive search of each query, and how many of the true nearest the searches brought. The marks are cleared
+// once for all queries. A search leaves none above its epoch, so that they serve once more: the nearest are marked with the next epoch, and of the search's
+// answers those are counted whose mark it is. So no list is held against another, and nothing here knows in what order answers stand.
 
 use definition::Report;
 ghost use mathlib.Core.Path.{_≡_};
+ghost use mathlib.Core.List.{[]};
+ghost use Prim.Native.Nat.{_+_, _≤_, _<_};
+ghost use lib.Dec.{eqb};
 ghost use lib.ListN.{length, take};
-ghost use Rattle.definition.specs.Recall.{inBoth};
 ghost use Rattle.definition.specs.Outcome.{queryCount, askedEach, reportDone, ReportMeets};
-ghost use Rattle.accepted.specs.Search.{SearchAccepted};
-ghost use Rattle.accepted.specs.Recall.{ExhaustiveAccepted, ReportAccepted};
-ghost use Rattle.scratch.specs.Lent.{lent};
-ghost use Rattle.recall.specs.Marks.{Places, Unmarked, Bits, Marks, Counted};
-ghost use Rattle.recall.specs.Asking.{callOf, outOf, searchBy, exhaustiveBy, Recalled, Tallied};
+ghost use Rattle.laws.specs.Sums.{bit};
+ghost use Rattle.theory.specs.build.Walks.{epochEnd};
+ghost use Rattle.accepted.specs.Recall.{ReportAccepted};
+ghost use Rattle.marks.specs.Marked.{Marks};
+ghost use Rattle.recall.specs.Marks.{Places, Unmarked, MarksOf, Counted, CountedBoth};
+ghost use Rattle.recall.specs.Asking.{callOf, outOf, QueryAccepted, QueriesAccepted, Recalled, Tallied};
 
 // What a report asks of each query: the k nearest of n entries of dim bytes, by a search that begins at `start`, on a table of rows of `degree` words.
 struct Asked {
@@ -23,74 +26,94 @@ struct Asked {
     start: u32,
 }
 
+// What a query gives: the epoch that it came to, and how many of its nearest were found.
+struct Brought {
+    epoch: u32,
+    hits: usize,
+}
+
 // How many of the nearest were found, and for how many queries all.
 struct Tally {
     found: usize,
     whole: usize,
 }
 
-// A mark at each of the first `count` ids.
-fn mark(words: &mut [u32], ids: &[u32], count: usize)
-    requires { ⌜ Unmarked (now words) ⌝ }
+// The epoch as the mark of each of the first `count` ids.
+fn mark(words: &mut [u32], ids: &[u32], count: usize, epoch: u32)
+    requires { ⌜ Unmarked epoch (now words) ⌝ }
     requires { ⌜ Places (now ids) count (length (now words)) ⌝ }
-    ensures { λ _. ⌜ Marks (take count (now (ids .entry))) (now (words .exit)) ⌝ }
+    ensures { λ _. ⌜ MarksOf epoch (take count (now (ids .entry))) (now (words .exit)) ⌝ }
 {
     let mut j = 0;
     while j < count {
         let i = ids[j] as usize;
-        words[i] = 1;
+        words[i] = epoch;
         j += 1;
     }
 }
 
-// How many of the first `count` ids have a mark: nothing branches on it, the marks are added up.
-fn marked(words: &[u32], ids: &[u32], count: usize) -> usize
-    requires { ⌜ Bits (now words) ⌝ }
+// 1 if a mark is the epoch, else 0: a number, so that nothing branches on it.
+fn is_hit(mark: u32, epoch: u32) -> usize
+    ensures { λ r. ⌜ (r ≡ bit (eqb mark epoch)) × (r ≤ 1) ⌝ }
+{
+    if mark == epoch { 1 } else { 0 }
+}
+
+// How many of the first `count` ids have the epoch as their mark.
+fn marked(words: &[u32], ids: &[u32], count: usize, epoch: u32) -> usize
     requires { ⌜ Places (now ids) count (length (now words)) ⌝ }
-    ensures { λ r. ⌜ Counted (now (words .entry)) (take count (now (ids .entry))) r ⌝ }
+    ensures { λ r. ⌜ Counted epoch (now (words .entry)) (take count (now (ids .entry))) r ⌝ }
 {
     let mut sum = 0;
     let mut j = 0;
     while j < count {
         let i = ids[j] as usize;
-        sum += words[i] as usize;
+        sum += is_hit(words[i], epoch);
         j += 1;
     }
     sum
 }
 
-// How many of the first `count` ids are among the first `most` of the nearest. The marks stay.
-fn in_both(words: &mut [u32], ids: &[u32], count: usize, nearest: &[u32], most: usize) -> usize
-    requires { ⌜ Unmarked (now words) ⌝ }
+// How many of the first `count` ids are among the first `most` of the nearest. The marks stay: none is above the epoch.
+fn in_both(
+    words: &mut [u32],
+    ids: &[u32],
+    count: usize,
+    nearest: &[u32],
+    most: usize,
+    epoch: u32,
+) -> usize
+    requires { ⌜ Unmarked epoch (now words) ⌝ }
     requires { ⌜ Places (now ids) count (length (now words)) ⌝ }
     requires { ⌜ Places (now nearest) most (length (now words)) ⌝ }
-    ensures { λ r. ⌜ r ≡ inBoth (take count (now (ids .entry))) (take most (now (nearest .entry))) ⌝ }
+    ensures { λ r. ⌜ CountedBoth epoch (take count (now (ids .entry))) (take most (now (nearest .entry))) (now (words .exit)) r ⌝ }
 {
-    mark(words, nearest, most);
-    marked(words, ids, count)
+    mark(words, nearest, most, epoch);
+    marked(words, ids, count, epoch)
 }
 
-// One query: how many of its nearest the search brings. `ids` and `dists` are room for its answers, `near` and `apart` for the nearest.
+// One query: how many of its nearest the search brings. The marks must be at most `epoch`, and are left so for the epoch that the query comes to, so that
+// one query may follow another. `ids` and `dists` are room for the search's answers, `near` and `apart` for the nearest.
 fn one_query(
     a: Asked,
     vectors: &[u8],
     table: &[u32],
     query: &[u8],
+    epoch: u32,
     words: &mut [u32],
-    floats: &mut [f32],
     ids: &mut [u32],
     dists: &mut [f32],
     near: &mut [u32],
     apart: &mut [f32],
-) -> usize
-    requires { ⌜ SearchAccepted (searchBy (callOf a (now vectors) (now table) (now query) (now words) (now floats)) (now ids) (now dists)) ⌝ }
-    requires { ⌜ ExhaustiveAccepted (exhaustiveBy (callOf a (now vectors) (now table) (now query) (now words) (now floats)) (now near) (now apart)) ⌝ }
+) -> Brought
+    requires { ⌜ QueryAccepted (callOf a (now vectors) (now table) (now query) (now words) []) (now ids) (now dists) (now near) (now apart) ⌝ }
+    requires { ⌜ (epoch + 2 < epochEnd) × Marks (a .n) (now words) epoch ⌝ }
     ensures { λ r. ⌜ Recalled
-        (callOf a (now (vectors .entry)) (now (table .entry)) (now (query .entry)) (now (words .entry)) (now (floats .entry)))
-        (lent (now (words .exit)) (now (floats .exit))) r ⌝ }
+        (callOf a (now (vectors .entry)) (now (table .entry)) (now (query .entry)) (now (words .entry)) [])
+        epoch (now (words .exit)) r ⌝ }
 {
     let n = a.n;
-    let found = search::search_accepted(
+    let found = search::walk_answers(
         n,
         a.dim,
         vectors,
@@ -100,16 +123,26 @@ fn one_query(
         a.start,
         table,
         query,
+        epoch,
         words,
-        floats,
         ids,
         dists,
     );
     let nearest = exhaustive::exhaustive_accepted(n, a.dim, vectors, a.k, query, near, apart);
-    in_both(&mut words[0..n], ids, found.count, near, nearest.count)
+    let next = marks::next_epoch(found.epoch);
+    let hits = in_both(
+        &mut words[0..n],
+        ids,
+        found.count,
+        near,
+        nearest.count,
+        next,
+    );
+    Brought { epoch: next, hits }
 }
 
-// All queries, one after another: what the searches bring of the nearest, and for how many queries that is all of `each`.
+// All queries, one after another: what the searches bring of the nearest, and for how many queries that is all of `each`. The marks are cleared once, since
+// what is lent may hold anything; then each query goes on from the epoch that the one before it came to.
 fn all_queries(
     a: Asked,
     vectors: &[u8],
@@ -118,20 +151,20 @@ fn all_queries(
     count: usize,
     each: usize,
     words: &mut [u32],
-    floats: &mut [f32],
 ) -> Tally
-    requires { ⌜ ReportAccepted (callOf a (now vectors) (now table) (now queries) (now words) (now floats)) ⌝ }
-    requires { ⌜ count ≡ queryCount (callOf a (now vectors) (now table) (now queries) (now words) (now floats)) ⌝ }
-    requires { ⌜ each ≡ askedEach (callOf a (now vectors) (now table) (now queries) (now words) (now floats)) ⌝ }
+    requires { ⌜ QueriesAccepted (callOf a (now vectors) (now table) (now queries) (now words) []) ⌝ }
+    requires { ⌜ count ≡ queryCount (callOf a (now vectors) (now table) (now queries) (now words) []) ⌝ }
+    requires { ⌜ each ≡ askedEach (callOf a (now vectors) (now table) (now queries) (now words) []) ⌝ }
     ensures { λ r. ⌜ Tallied
-        (callOf a (now (vectors .entry)) (now (table .entry)) (now (queries .entry)) (now (words .entry)) (now (floats .entry)))
-        count (lent (now (words .exit)) (now (floats .exit))) r ⌝ }
+        (callOf a (now (vectors .entry)) (now (table .entry)) (now (queries .entry)) (now (words .entry)) [])
+        count (now (words .exit)) r ⌝ }
 {
     let mut ids = [0u32; 256];
     let mut dists = [0.0f32; 256];
     let mut near = [0u32; 256];
     let mut apart = [0.0f32; 256];
     let dim = a.dim;
+    let mut epoch = marks::first_epoch(words, a.n);
     let mut found = 0;
     let mut whole = 0;
     let mut q = 0;
@@ -139,18 +172,20 @@ fn all_queries(
         let at = q * dim;
         let end = at + dim;
         let query = &queries[at..end];
-        let hits = one_query(
+        let brought = one_query(
             a,
             vectors,
             table,
             query,
+            epoch,
             words,
-            floats,
             &mut ids,
             &mut dists,
             &mut near,
             &mut apart,
         );
+        let hits = brought.hits;
+        epoch = brought.epoch;
         found += hits;
         if hits == each {
             whole += 1;
@@ -160,7 +195,7 @@ fn all_queries(
     Tally { found, whole }
 }
 
-// A report that no check refuses: with no queries all its figures are 0.
+// A report that no check refuses: with no queries all its figures are 0. Its room is cleared once, at the end.
 fn report_accepted(
     a: Asked,
     vectors: &[u8],
@@ -176,10 +211,9 @@ fn report_accepted(
     let n = a.n;
     let count = queries.len() / a.dim;
     let each = laws::least(a.k, n);
-    let t = all_queries(a, vectors, table, queries, count, each, words, floats);
+    let t = all_queries(a, vectors, table, queries, count, each, words);
     let w = scratch::report_end(n);
-    let f = scratch::report_floats_end(n);
-    scratch::clear_front(words, floats, w, f);
+    scratch::clear_front(words, floats, w, scratch::REPORT_FLOATS);
     answers::reported(count, count * each, t.found, t.whole)
 }
 

@@ -1,43 +1,44 @@
--- `all_queries`. The loop's invariant: what was found in the first q queries, and in how many of them all, is the definition's; what lies beyond the room of a
--- search is as it was lent.
+-- `all_queries`. The loop's invariant: what was found in the first q queries, and in how many of them all, is the definition's; no mark is above the epoch,
+-- and no word but the marks differs.
 use mathlib.Core.Path.{_≡_, refl, _∙_}
-use mathlib.Core.Logic.{⊎-elim}
+use mathlib.Core.Logic.{inl, inr, ⊎-elim}
+use mathlib.Core.List.{[]}
 use Prim.Native.Nat.{_-_}
 use native.Mathlib.Omega.{arith}
 use borrow.Author.Needs.{needs}
-use Rattle.scratch.specs.Lent.{lent}
-use Rattle.definition.specs.Refusals.{ReportCall}
-use Rattle.accepted.specs.Recall.{report-searches, report-exhausts}
 use Rattle.recall.specs.Asking.{callOf}
-use Rattle.recall.proofs.Tallying.{Going, Outputs, query-fits, query-long, hits-at, go-start, go-whole, go-part}
+use Rattle.recall.proofs.Tallying.{Going, Outputs, go-start, query-fits, query-room, go-on, go-end}
 use Rattle.recall.proofs.all_queries.Statement.{statement}
 use Rattle.recall.proofs.all_queries.Tie as tie
 
 abbrev Inv-loop : tie.InvT-loop
-Inv-loop a vectors table queries count each words₀ floats₀ ids₀ dists₀ near₀ apart₀ dim found₀ whole₀ q₀ words floats ids dists near apart found whole q =
-    Going (callOf a vectors table queries words₀ floats₀) count q found whole (lent words floats) × Outputs ids dists near apart
+Inv-loop a vectors table queries count each words₀ ids₀ dists₀ near₀ apart₀ dim epoch₀ found₀ whole₀ q₀ words ids dists near apart epoch found whole q =
+    Going (callOf a vectors table queries words₀ []) count q epoch found whole words × Outputs ids dists near apart
 
 abbrev μ-loop : tie.MeasureT-loop
-μ-loop a vectors table queries count each words₀ floats₀ ids₀ dists₀ near₀ apart₀ dim found₀ whole₀ q₀ words floats ids dists near apart found whole q =
+μ-loop a vectors table queries count each words₀ ids₀ dists₀ near₀ apart₀ dim epoch₀ found₀ whole₀ q₀ words ids dists near apart epoch found whole q =
     count - q
 
--- the report, and back to the entry from the loop; query q lies within the bytes
-abbrev asked : tie.Start Inv-loop μ-loop → ReportCall
-asked s = callOf (s .args .a) (s .args .vectors .now) (s .args .table .now) (s .args .queries .now) (s .args .words .now) (s .args .floats .now)
+-- from the loop back to the cleared marks, and from these to the entry
+abbrev begun : tie.At-loop Inv-loop μ-loop → tie.After-first-epoch Inv-loop μ-loop
+begun c = c .before .before .before
 
-abbrev at-loop : tie.At-loop Inv-loop μ-loop → tie.Start Inv-loop μ-loop
-at-loop c = c .before .before .before .before .before .before
+abbrev called : tie.After-first-epoch Inv-loop μ-loop → tie.Start Inv-loop μ-loop
+called c = c .before .before .before .before .before .before
+
+first-epoch-requires : tie.Need-first-epoch-requires Inv-loop μ-loop
+first-epoch-requires c κs = omega (arith, c .before .before .before .before .before .pre .0 .report .word-room)
 
 loop-holds : tie.Need-loop-holds Inv-loop μ-loop
-loop-holds c = (go-start _ _, record { ids-long = refl; dists-long = refl; near-long = refl; apart-long = refl })
+loop-holds c =
+    let m = c .before .before in
+    (go-start _ _ (m .first-epoch .ensures), record { ids-long = refl; dists-long = refl; near-long = refl; apart-long = refl })
 
 mul-at : tie.Need-mul-at Inv-loop μ-loop
-mul-at c =
-    let s = at-loop (c .before) in omega (arith, query-fits (asked s) (s .pre .0) (c .before .loop .q) (omega (arith, s .pre .1 .0)))
+mul-at c = let s = called (begun (c .before)) in omega (arith, query-fits (s .pre .0) (s .pre .1 .0) (c .loop-test .taken))
 
 add-end : tie.Need-add-end Inv-loop μ-loop
-add-end c =
-    let s = at-loop (c .before) in omega (arith, query-fits (asked s) (s .pre .0) (c .before .loop .q) (omega (arith, s .pre .1 .0)))
+add-end c = let s = called (begun (c .before)) in omega (arith, query-fits (s .pre .0) (s .pre .1 .0) (c .loop-test .taken))
 
 sub-query : tie.Need-sub-query Inv-loop μ-loop
 sub-query c = search needs
@@ -46,8 +47,7 @@ part-query-start : tie.Need-part-query-start Inv-loop μ-loop
 part-query-start c = search needs
 
 part-query-end : tie.Need-part-query-end Inv-loop μ-loop
-part-query-end c =
-    let s = at-loop (c .before) in omega (arith, query-fits (asked s) (s .pre .0) (c .before .loop .q) (omega (arith, s .pre .1 .0)))
+part-query-end c = let s = called (begun (c .before)) in query-fits (s .pre .0) (s .pre .1 .0) (c .loop-test .taken)
 
 slice-aggregate-one-query : tie.Need-slice-aggregate-one-query Inv-loop μ-loop
 slice-aggregate-one-query c = search needs
@@ -63,16 +63,11 @@ slice-aggregate-one-query-4 c = search needs
 
 one-query-requires : tie.Need-one-query-requires Inv-loop μ-loop
 one-query-requires c κs =
-    let l = c .before .before .before .before .before .before .before .before in
-    let s = at-loop l in
-    let g = l .loop .inv .0 .tallied .kept in
-    let o = l .loop .inv .1 in
-    let long = query-long (asked s) (s .pre .0) (l .loop .q) (omega (arith, s .pre .1 .0)) in (
-      report-searches (asked s) (s .pre .0) _ long _ _ _ _ (omega (arith, g .words .size, s .pre .0 .word-room))
-          (omega (arith, g .floats .size, s .pre .0 .float-room))
-          (omega (arith, o .ids-long)) (omega (arith, o .dists-long)),
-      report-exhausts (asked s) (s .pre .0) _ long _ _ (omega (arith, o .near-long)) (omega (arith, o .apart-long)),
-    )
+    let t = c .before .before .before .before .before .before in
+    let l = t .before in
+    let m = begun l in
+    let s = called m in
+    query-room (s .pre .0) (s .pre .1 .0) (t .loop-test .taken) (m .first-epoch .ensures) (l .loop .inv .0) (l .loop .inv .1)
 
 add-found : tie.Need-add-found Inv-loop μ-loop
 add-found c = search needs
@@ -88,18 +83,14 @@ loop-less c = omega arith
 
 loop-again : tie.Need-loop-again Inv-loop μ-loop
 loop-again c =
-    let o = c .before .before .before .before .before .before .before .before .before in
-    let t = o .before .before .before .before .before .before .before .before in
+    let o = c .before .before .before .before .before .before .before in
+    let t = o .before .before .before .before .before .before .before in
     let l = t .before in
-    let s = at-loop l in
-    let k = asked s in
-    let is = o .one-query .ensures .is ∙ hits-at k (l .loop .q) in
-    let kept = o .one-query .ensures .kept in
-    let few = o .one-query .ensures .few in
-    let room = o .one-query .kept .1 .1 .1 .1 .1 .1 in
-    let g = l .loop .inv .0 in (
-      ⊎-elim (λ w. go-whole k _ (s .args .each) _ (s .pre .1 .1) _ _ _ _ _ g (t .loop-test .taken) is few kept (w .0 .taken) _ (w .1))
-          (λ w. go-part k _ (s .args .each) _ (s .pre .1 .1) _ _ _ _ _ g (t .loop-test .taken) is few kept (w .0 .left) _ (w .1)) (c .if1 .came),
+    let m = begun l in
+    let s = called m in
+    let room = o .one-query .kept .1 .1 .1 .1 .1 .1 in (
+      go-on (s .pre .0) (s .pre .1 .0) (t .loop-test .taken) (m .first-epoch .ensures) (l .loop .inv .0) (o .one-query .ensures) (s .pre .1 .1)
+          (⊎-elim (λ w. inl (w .0 .taken, w .1)) (λ w. inr (w .0 .left, w .1)) (c .if1 .came)),
       record {
         ids-long = room .0 ∙ l .loop .inv .1 .ids-long;
         dists-long = room .1 .0 ∙ l .loop .inv .1 .dists-long;
@@ -111,15 +102,12 @@ loop-again c =
 same-length : tie.Need-same-length Inv-loop μ-loop
 same-length c = search needs
 
-same-length-2 : tie.Need-same-length-2 Inv-loop μ-loop
-same-length-2 c = search needs
-
 returns : tie.Need-returns Inv-loop μ-loop
 returns c =
     let l = c .before .loop in
-    let s = at-loop (c .before) in
-    let q : l .q ≡ s .args .count = omega (arith, l .inv .0 .most) in
-    rw q at (l .inv .0 .tallied)
+    let m = begun (c .before) in
+    let q : l .q ≡ called m .args .count = omega (arith, l .inv .0 .most) in
+    go-end (m .first-epoch .ensures) (rw q at (l .inv .0 .tallied))
 
 pub all-queries-spec : {M : Type 1} → statement M
 all-queries-spec =
@@ -127,6 +115,7 @@ all-queries-spec =
     (tie.spec
     Inv-loop
     μ-loop
+    first-epoch-requires
     loop-holds
     mul-at
     add-end
@@ -144,5 +133,4 @@ all-queries-spec =
     loop-less
     loop-again
     same-length
-    same-length-2
     returns)

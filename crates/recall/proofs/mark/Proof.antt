@@ -8,13 +8,13 @@ use Rattle.recall.proofs.mark.Statement.{statement}
 use Rattle.recall.proofs.mark.Tie as tie
 
 abbrev Inv-loop : tie.InvT-loop
-Inv-loop words₀ ids count j₀ words j = (j ≤ count) × Marking ids words₀ j words
+Inv-loop words₀ ids count epoch j₀ words j = (j ≤ count) × Marking epoch ids words₀ j words
 
 abbrev μ-loop : tie.MeasureT-loop
-μ-loop words₀ ids count j₀ words j = count - j
+μ-loop words₀ ids count epoch j₀ words j = count - j
 
 loop-holds : tie.Need-loop-holds Inv-loop μ-loop
-loop-holds c = (omega arith, mark-start _ _ (c .pre .0))
+loop-holds c = (omega arith, mark-start _ _ _ (c .pre .0))
 
 mul-i : tie.Need-mul-i Inv-loop μ-loop
 mul-i c = search needs
@@ -38,7 +38,7 @@ loop-less : tie.Need-loop-less Inv-loop μ-loop
 loop-less c = omega arith
 
 loop-again : tie.Need-loop-again Inv-loop μ-loop
-loop-again c = (omega arith, mark-more _ _ _ _ (omega (arith, c .before .before .before .pre .1 .few)) _ refl (c .before .before .loop .inv .1))
+loop-again c = (omega arith, mark-more _ _ _ _ _ (omega (arith, c .before .before .before .pre .1 .few)) _ refl (c .before .before .loop .inv .1))
 
 same-length : tie.Need-same-length Inv-loop μ-loop
 same-length c = search needs

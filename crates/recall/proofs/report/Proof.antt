@@ -1,5 +1,4 @@
 -- `report`. It is refused by its number, or accepted.
-use Prim.Native.Nat.{_-_}
 use borrow.Author.Needs.{needs}
 use Rattle.definition.specs.Refusals.{ReportCall}
 use Rattle.recall.proofs.Reporting.{accepted, refused, done}
