@@ -21,7 +21,7 @@ use Rattle.marks.specs.Marked.{news, Seen, Gathers}
 use Rattle.marks.specs.Visits.{visited-most, marked-kept, visited-kept, seen-kept}
 use Rattle.kept.specs.declared.Work.{Work}
 use Rattle.kept.specs.Says.{standing as standing-kept, Works, Working, Met, meets}
-use Rattle.kept.specs.Cases.{meets-visited, meets-expanded}
+use Rattle.kept.specs.Cases.{meets-visited}
 use Rattle.greedy.specs.declared.Plan.{Plan}
 use Rattle.greedy.specs.Scratch.{Measures, Standing, standing, walkEnd, walk-end-all, walk-end-least, space-kept, Ready, Logged, Is, Live, Keeps, Moves}
 use Rattle.greedy.specs.Cases.{measured-ids, measured-dists, measured-length, expand-meets}
@@ -106,7 +106,7 @@ module _ {p : Plan} {epoch : ℕ} {s₀ : Standing} (r : Ready p epoch s₀) {wo
       module _ {words₂ : List ℕ} (l : Lists p v ids dists words₁ words₂) {keys₂ : List ℕ} {w : Work}
           (m : Met (p .beam) (standing-kept (s₀ .keys) (s₀ .counts .work)) (standing-kept keys₂ w) ids dists) where
         abbrev s₂ : Standing
-        s₂ = standing words₂ keys₂ (record { visited = v + count; expanded = s₀ .counts .expanded; work = w })
+        s₂ = standing words₂ keys₂ (record { visited = v + count; work = w })
 
         ready₂ : Ready p epoch s₂
         ready₂ =
@@ -175,7 +175,6 @@ module _ {p : Plan} {epoch : ℕ} {s₀ : Standing} (r : Ready p epoch s₀) {wo
                     subst (Seen n epoch words₂) (sym ids₂)
                     (seen-kept n epoch (walkEnd p) (l .kept) (visitedIds st ++ new) (g .seen (visitedIds st) (is .seen)));
                 count = count₂;
-                expanded-count = ap length (meets-expanded (p .beam) st (measured d new)) ∙ is .expanded-count;
                 logged = logged₂;
                 working =
                     subst (λ (z : List Item). Works n (p .beam) (standing-kept keys₂ w) (meets (p .beam) st z .frontier) (meets (p .beam) st z .work))

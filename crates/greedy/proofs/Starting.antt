@@ -19,14 +19,16 @@ use Rattle.laws.specs.Truth.{decide}
 use Rattle.scratch.specs.Layout.{strayAt}
 use Rattle.beam.specs.Keys.{none}
 use Rattle.marks.specs.News.{id-real, news-one}
-use Rattle.marks.specs.Visits.{marked-start, visited-start, seen-start, visited-most}
+use Rattle.marks.specs.Visits.{marked-start, visited-start, seen-start}
 use Rattle.kept.specs.declared.Work.{Work}
 use Rattle.kept.specs.Kept.{Kept, items, opens, Beyond}
-use Rattle.kept.specs.Says.{Standing as KeptStanding, standing as standing-kept, noWork, Works, meets}
+use Rattle.kept.specs.Says.{Standing as KeptStanding, standing as standing-kept, noWork, Works, Tells, meets}
 use Rattle.kept.specs.Cases.{meets-one}
 use Rattle.kept.specs.Laws.{works-none, works-tell}
 use Rattle.greedy.specs.declared.Plan.{Plan}
-use Rattle.greedy.specs.Scratch.{noted, fromStart, walkOf, Standing, standing, walkEnd, walk-end-least, space-kept, Ready, Room, Is, Live, Moves, Walks}
+use Rattle.greedy.specs.declared.Walked.{Walked}
+use Rattle.greedy.specs.Scratch.{noted, fromStart, walkOf, Standing, standing, walkEnd, walk-end-least, space-kept}
+use Rattle.greedy.specs.Scratch.{Ready, Room, Is, Live, Moves, Leaves, Ends, Walks}
 use Rattle.greedy.specs.Cases.{expand-meets, steps-stop, steps-go, stops-empty, stops-filled, step-is, greedy-is, from-none, from-some}
 
 -- nothing is visited
@@ -58,6 +60,15 @@ module _ (d : ℕ → ℕ) (start : ℕ) where
   unfolding unvisited noted meet begin admitted popped best withoutBest insertCapped beatsWorst
   noted-none zero e = refl
   noted-none (suc b) e = absurd (omega arith)
+
+  -- and nothing is expanded before
+  met-none : (beam : ℕ) → length (meet beam first unvisited .expanded) ≡ 0
+  unfolding unvisited meet
+  met-none beam = refl
+
+  begun-none : (beam : ℕ) → length (begin d beam start .expanded) ≡ 0
+  unfolding begin
+  begun-none beam = refl
 
   goes-none : (beam : ℕ) → beam ≡ 0 → stops beam (begin d beam start) ≡ false
   unfolding begin filled insertCapped
@@ -104,7 +115,7 @@ module _ {p : Plan} {epoch : ℕ} {words₀ : List ℕ} {e : ℕ} {keys : List �
   words₁ = set words₀ (strayAt n) e
 
   abbrev s₀ : Standing
-  s₀ = standing words₁ keys (record { visited = 0; expanded = 0; work = w })
+  s₀ = standing words₁ keys (record { visited = 0; work = w })
 
   fits : strayAt n < length words₀
   fits = stray-fits (b .room)
@@ -128,7 +139,6 @@ module _ {p : Plan} {epoch : ℕ} {words₀ : List ℕ} {e : ℕ} {keys : List �
       record {
         seen = seen-start n e words₀ below;
         count = refl;
-        expanded-count = refl;
         logged = λ _. record { ids-are = refl; dists-are = refl };
         working =
             subst (λ (z : Work). Works n beam (standing-kept keys z) [] []) (sym (b .empty)) (works-none n beam keys (s .nodes) (s .beam-le) (b .free));
@@ -147,10 +157,6 @@ module _ {p : Plan} {epoch : ℕ} {words₀ : List ℕ} {e : ℕ} {keys : List �
     met-is : Is p e s₁ (meet beam (first d start) unvisited)
     met-is = subst (Is p e s₁) (first-met d start n beam (b .room .space .nodes) inside) (m .moves unvisited start-is)
 
-    pub met-none : s₁ .counts .expanded ≡ 0
-    unfolding unvisited meet
-    met-none = sym (met-is .expanded-count)
-
     pub met-live : Live p e s₁
     met-live = record { state = meet beam (first d start) unvisited; is = met-is }
 
@@ -158,30 +164,34 @@ module _ {p : Plan} {epoch : ℕ} {words₀ : List ℕ} {e : ℕ} {keys : List �
     begun = begin d beam start
 
     -- ---- and the rest is walked
-    module _ (table : List ℕ) {s₂ : Standing} (q : Moves p e s₁ s₂ (fromStart p d table start)) where
+    module _ (table : List ℕ) {words keys₂ : List ℕ} {r : Walked} (q : Ends p e s₁ words keys₂ r (fromStart p d table start)) where
       abbrev rows : ℕ → List ℕ
       rows = row (p .width) (cleaned n table)
 
       abbrev end : State
       end = greedy d rows n beam start
 
+      abbrev Left : State → Type 0
+      Left = Leaves p words keys₂ r
+
       -- with a beam
-      some-ends : (beam ≡ 0 → ⊥) → Is p e s₂ end
+      some-ends : (beam ≡ 0 → ⊥) → Left end
       some-ends some =
-          subst (Is p e s₂) (sym (greedy-is d rows n beam start))
-          (subst (Moves p e s₁ s₂) (from-some p d table start some) q .moves begun (subst (Is p e s₁) (begun-some d start beam (omega arith)) met-is))
+          subst Left (sym (greedy-is d rows n beam start))
+          (subst (Ends p e s₁ words keys₂ r) (from-some p d table start some) q .leaves begun
+          (subst (Is p e s₁) (begun-some d start beam (omega arith)) met-is) (begun-none d start beam))
 
       -- with beam 0
-      none-ends : beam ≡ 0 → Is p e s₂ end
-      none-ends z = subst (Is p e s₂) (sym same) there
+      none-ends : beam ≡ 0 → Left end
+      none-ends z = subst Left (sym same) there
         where
           after : State
           after = expand d beam (popped begun) (rows start)
 
-          there : Is p e s₂ after
+          there : Left after
           there =
-              subst (λ (st : State). Is p e s₂ (expand d beam st (rows start))) (noted-none d start beam z)
-              (subst (Moves p e s₁ s₂) (from-none p d table start z) q .moves (meet beam (first d start) unvisited) met-is)
+              subst (λ (st : State). Left (expand d beam st (rows start))) (noted-none d start beam z)
+              (subst (Ends p e s₁ words keys₂ r) (from-none p d table start z) q .leaves (meet beam (first d start) unvisited) met-is (met-none d start beam))
 
           same : end ≡ after
           same =
@@ -190,22 +200,22 @@ module _ {p : Plan} {epoch : ℕ} {words₀ : List ℕ} {e : ℕ} {keys : List �
               ∙ ap (steps d rows beam (n - 1)) (step-is d rows beam begun start (best-first d start beam))
               ∙ steps-stop d rows beam (n - 1) after (stops-empty beam after (bare z (there .working)))
 
-      ends : Is p e s₂ end
+      ends : Left end
       ends = decide (eqb beam 0) (λ t. none-ends (eqb-true beam 0 t)) (λ f. some-ends (eqb-false beam 0 f))
 
-      pub walked : Walks p epoch words₀ (s₂ .words) (s₂ .keys)
-          (record { epoch = e; visited = s₂ .counts .visited; expanded = s₂ .counts .expanded; work = s₂ .counts .work .len }) (walkOf p d table start)
+      pub walked : Walks p epoch words₀ words keys₂ r (walkOf p d table start)
       walked =
+          let told = works-tell n beam (standing-kept keys₂ (ends .work)) (end .frontier) (end .work) (ends .working) in
           record {
-            epoch-is = b .next;
-            room = record { space = q .ready .space; marks = q .ready .marked .marks-le };
-            visited-is = ends .count;
-            visited-le = omega (arith, visited-most (q .ready .marked), q .ready .visited-is);
-            expanded-is = ends .expanded-count;
+            epoch-is = q .epoch-is ∙ b .next;
+            room = subst (λ (k : ℕ). Room p k words) (sym (q .epoch-is)) (q .room);
+            visited-is = ends .visited-is;
+            visited-le = q .visited-le;
+            expanded-is = ends .expanded-is;
             logged = ends .logged;
-            work-is = works-tell n beam (standing-kept (s₂ .keys) (s₂ .counts .work)) (end .frontier) (end .work) (ends .working);
-            work-le = ends .working .len-le;
+            work-is = subst (λ (k : ℕ). Tells keys₂ k (end .work)) (ends .len-is) told;
+            work-le = omega (arith, ends .len-is, ends .working .len-le);
             words-kept =
-                within-trans 0 (walkEnd p) words₀ words₁ (s₂ .words) start-kept
-                (within-trans 0 (walkEnd p) words₁ (s₁ .words) (s₂ .words) (m .words-kept) (q .words-kept));
+                within-trans 0 (walkEnd p) words₀ words₁ words start-kept
+                (within-trans 0 (walkEnd p) words₁ (s₁ .words) words (m .words-kept) (q .words-kept));
           }

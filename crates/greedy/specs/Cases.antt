@@ -86,6 +86,10 @@ pub step-is : (d : ℕ → ℕ) (rows : ℕ → List ℕ) (beam : ℕ) (s : Stat
 unfolding step
 step-is d rows beam s id e = ap (λ (i : ℕ). expand d beam (popped s) (rows i)) (sym e)
 
+pub step-expanded : (d : ℕ → ℕ) (rows : ℕ → List ℕ) (beam : ℕ) (s : State) → length (step d rows beam s .expanded) ≡ suc (length (s .expanded))
+unfolding step popped
+step-expanded d rows beam s = ap length (expand-expanded d beam (rows (best (s .frontier) .id)) (popped s))
+
 pub greedy-is : (d : ℕ → ℕ) (rows : ℕ → List ℕ) (n beam start : ℕ) → greedy d rows n beam start ≡ steps d rows beam n (begin d beam start)
 unfolding greedy
 greedy-is d rows n beam start = refl

@@ -15,6 +15,7 @@ use Rattle.laws.specs.Tables.{row-fits}
 use Rattle.laws.specs.Truth.{either}
 use Rattle.scratch.specs.Layout.{mostBeam, widest, visitedAt, visitedEnd, visitedDistsAt, poolAt}
 use Rattle.marks.specs.Marked.{Marks, visitedOf, Marked, Seen}
+use Rattle.kept.specs.declared.Work.{Work}
 use Rattle.kept.specs.Says.{Works, Tells}
 use Rattle.kept.specs.Says.{standing as standing-kept}
 use Rattle.greedy.specs.declared.Plan.{Plan}
@@ -118,7 +119,6 @@ pub record Logged (n : ℕ) (words : List ℕ) (visited : List Item) : Type 0 wh
 pub record Is (p : Plan) (epoch : ℕ) (s : Standing) (st : State) : Type 0 where
   pub seen : Seen (p .n) epoch (s .words) (visitedIds st)
   pub count : length (st .visited) ≡ s .counts .visited
-  pub expanded-count : length (st .expanded) ≡ s .counts .expanded
   pub logged : p .keep ≡ true → Logged (p .n) (s .words) (st .visited)
   pub working : Works (p .n) (p .beam) (standing-kept (s .keys) (s .counts .work)) (st .frontier) (st .work)
 
@@ -140,6 +140,23 @@ pub record Moves (p : Plan) (epoch : ℕ) (before after : Standing) (move : Stat
   pub ready : Ready p epoch after
   pub moves : (st : State) → Is p epoch before st → Is p epoch after (move st)
   pub words-kept : Within 0 (walkEnd p) (before .words) (after .words)
+
+-- the words, the keys and what is returned hold the state that a walk comes to
+pub record Leaves (p : Plan) (words keys : List ℕ) (r : Walked) (st : State) : Type 0 where
+  pub visited-is : length (st .visited) ≡ r .visited
+  pub expanded-is : length (st .expanded) ≡ r .expanded
+  pub logged : p .keep ≡ true → Logged (p .n) words (st .visited)
+  pub work : Work
+  pub len-is : work .len ≡ r .work
+  pub working : Works (p .n) (p .beam) (standing-kept keys work) (st .frontier) (st .work)
+
+-- what is left of a walk, from a state in which nothing is expanded: to where `move` leads
+pub record Ends (p : Plan) (epoch : ℕ) (before : Standing) (words keys : List ℕ) (r : Walked) (move : State → State) : Type 0 where
+  pub epoch-is : r .epoch ≡ epoch
+  pub room : Room p epoch words
+  pub visited-le : r .visited ≤ p .n
+  pub leaves : (st : State) → Is p epoch before st → length (st .expanded) ≡ 0 → Leaves p words keys r (move st)
+  pub words-kept : Within 0 (walkEnd p) (before .words) words
 
 -- one whole walk: the next epoch, and the state it comes to
 pub record Walks (p : Plan) (epoch : ℕ) (before after keys : List ℕ) (r : Walked) (st : State) : Type 0 where

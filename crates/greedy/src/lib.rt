@@ -12,7 +12,7 @@ ghost use Rattle.definition.specs.Greedy.{expand, steps};
 ghost use Rattle.theory.specs.build.Walks.{epochEnd};
 ghost use Rattle.scratch.specs.Layout.{widest, poolAt};
 ghost use Rattle.beam.specs.Keys.{none};
-ghost use Rattle.greedy.specs.Scratch.{Measures, Ground, noted, fromStart, walkOf, standing, Ready, Live, Room, Rooms, Keeps, Moves, Walks};
+ghost use Rattle.greedy.specs.Scratch.{Measures, Ground, fromStart, walkOf, standing, Ready, Live, Room, Rooms, Keeps, Moves, Ends, Walks};
 
 // What a walk goes by: n entries of dim bytes, and rows of width words; and whether it keeps a list of all that it visits.
 pub struct Plan {
@@ -23,11 +23,18 @@ pub struct Plan {
     pub keep: bool,
 }
 
-// How many were visited, how many of them expanded, and what work has.
+// How many were visited, and what work has.
 pub struct Counts {
     pub visited: usize,
-    pub expanded: usize,
     pub work: Work,
+}
+
+// What a walk leaves: the epoch, and how many it visited, expanded and kept.
+pub struct Walked {
+    pub epoch: u32,
+    pub visited: usize,
+    pub expanded: usize,
+    pub work: usize,
 }
 
 // New entries with their distances, behind the v visited.
@@ -107,14 +114,10 @@ fn expand(
     }
     let work = kept::meet(keys, p.beam, c.work, &fresh[0..count], &apart[0..count]);
     let visited = c.visited + count;
-    Counts {
-        visited,
-        expanded: c.expanded,
-        work,
-    }
+    Counts { visited, work }
 }
 
-// One entry is expanded: its row is walked.
+// The row of one entry.
 fn step(
     words: &mut [u32],
     keys: &mut [u64],
@@ -131,22 +134,15 @@ fn step(
     requires { ⌜ Ready p epoch (standing (now words) (now keys) c) ⌝ }
     requires { ⌜ Live p epoch (standing (now words) (now keys) c) ⌝ }
     requires { ⌜ Ground p (now vectors) (now query) (now table) ⌝ }
-    requires { ⌜ (id < p .n) × (c .expanded < p .n) × (length (now fresh) ≡ widest) × (length (now apart) ≡ widest) ⌝ }
+    requires { ⌜ (id < p .n) × (length (now fresh) ≡ widest) × (length (now apart) ≡ widest) ⌝ }
     ensures { λ r. ⌜ Moves p epoch (standing (now (words .entry)) (now (keys .entry)) c) (standing (now (words .exit)) (now (keys .exit)) r)
-        (λ st. expand (fromQuery (p .dim) (now (vectors .entry)) (now (query .entry))) (p .beam) (noted id st)
+        (λ st. expand (fromQuery (p .dim) (now (vectors .entry)) (now (query .entry))) (p .beam) st
         (row (p .width) (cleaned (p .n) (now (table .entry))) id)) ⌝ }
 {
     let width = p.width;
     let from = id as usize * width;
     let to = from + width;
-    let work = c.work;
-    touch_next(keys, work, table, width, apart);
-    let expanded = c.expanded + 1;
-    let t = Counts {
-        visited: c.visited,
-        expanded,
-        work,
-    };
+    touch_next(keys, c.work, table, width, apart);
     expand(
         words,
         keys,
@@ -157,11 +153,11 @@ fn step(
         &table[from..to],
         p,
         epoch,
-        t,
+        c,
     )
 }
 
-// While the frontier has an item to walk: the row of the best. Each turn walks another entry's row, so that n turns are enough.
+// While the frontier has an item to walk: the row of the best. Each turn expands another entry, so that n turns are enough; as many as were made were expanded.
 fn walk(
     words: &mut [u32],
     keys: &mut [u64],
@@ -173,12 +169,12 @@ fn walk(
     p: Plan,
     epoch: u32,
     c: Counts,
-) -> Counts
+) -> Walked
     requires { ⌜ Ready p epoch (standing (now words) (now keys) c) ⌝ }
     requires { ⌜ Live p epoch (standing (now words) (now keys) c) ⌝ }
     requires { ⌜ Ground p (now vectors) (now query) (now table) ⌝ }
-    requires { ⌜ (c .expanded ≡ 0) × (length (now fresh) ≡ widest) × (length (now apart) ≡ widest) ⌝ }
-    ensures { λ r. ⌜ Moves p epoch (standing (now (words .entry)) (now (keys .entry)) c) (standing (now (words .exit)) (now (keys .exit)) r)
+    requires { ⌜ (length (now fresh) ≡ widest) × (length (now apart) ≡ widest) ⌝ }
+    ensures { λ r. ⌜ Ends p epoch (standing (now (words .entry)) (now (keys .entry)) c) (now (words .exit)) (now (keys .exit)) r
         (λ st. steps (fromQuery (p .dim) (now (vectors .entry)) (now (query .entry)))
         (row (p .width) (cleaned (p .n) (now (table .entry)))) (p .beam) (p .n) st) ⌝ }
 {
@@ -191,7 +187,6 @@ fn walk(
         }
         let t = Counts {
             visited: s.visited,
-            expanded: s.expanded,
             work: Work {
                 len: s.work.len,
                 done: next.done,
@@ -213,7 +208,13 @@ fn walk(
         );
         left -= 1;
     }
-    s
+    let expanded = p.n - left;
+    Walked {
+        epoch,
+        visited: s.visited,
+        expanded,
+        work: s.work.len,
+    }
 }
 
 // From the start, which is met: with beam 0 work took nothing in, and the start's row is walked all the same.
@@ -229,16 +230,16 @@ fn from_start(
     epoch: u32,
     start: u32,
     c: Counts,
-) -> Counts
+) -> Walked
     requires { ⌜ Ready p epoch (standing (now words) (now keys) c) ⌝ }
     requires { ⌜ Live p epoch (standing (now words) (now keys) c) ⌝ }
     requires { ⌜ Ground p (now vectors) (now query) (now table) ⌝ }
-    requires { ⌜ (start < p .n) × (c .expanded ≡ 0) × (length (now fresh) ≡ widest) × (length (now apart) ≡ widest) ⌝ }
-    ensures { λ r. ⌜ Moves p epoch (standing (now (words .entry)) (now (keys .entry)) c) (standing (now (words .exit)) (now (keys .exit)) r)
+    requires { ⌜ (start < p .n) × (length (now fresh) ≡ widest) × (length (now apart) ≡ widest) ⌝ }
+    ensures { λ r. ⌜ Ends p epoch (standing (now (words .entry)) (now (keys .entry)) c) (now (words .exit)) (now (keys .exit)) r
         (fromStart p (fromQuery (p .dim) (now (vectors .entry)) (now (query .entry))) (now (table .entry)) start) ⌝ }
 {
     if p.beam == 0 {
-        return step(
+        let s = step(
             words,
             keys,
             fresh,
@@ -251,6 +252,12 @@ fn from_start(
             start,
             c,
         );
+        return Walked {
+            epoch,
+            visited: s.visited,
+            expanded: 1,
+            work: s.work.len,
+        };
     }
     walk(
         words,
@@ -264,14 +271,6 @@ fn from_start(
         epoch,
         c,
     )
-}
-
-// What a walk leaves: the epoch, and how many it visited, expanded and kept.
-pub struct Walked {
-    pub epoch: u32,
-    pub visited: usize,
-    pub expanded: usize,
-    pub work: usize,
 }
 
 // A whole walk, on words that earlier walks used. `keys` is 256 free places, and is left with what work has. The start is met as the one entry of a row.
@@ -299,11 +298,7 @@ pub fn greedy(
     let e = marks::next_epoch(epoch);
     words[n] = e;
     let work = kept::empty(p.beam);
-    let none = Counts {
-        visited: 0,
-        expanded: 0,
-        work,
-    };
+    let none = Counts { visited: 0, work };
     let c = expand(
         words,
         keys,
@@ -316,7 +311,7 @@ pub fn greedy(
         e,
         none,
     );
-    let s = from_start(
+    from_start(
         words,
         keys,
         &mut fresh,
@@ -328,11 +323,5 @@ pub fn greedy(
         e,
         start,
         c,
-    );
-    Walked {
-        epoch: e,
-        visited: s.visited,
-        expanded: s.expanded,
-        work: s.work.len,
-    }
+    )
 }

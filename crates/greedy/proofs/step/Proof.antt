@@ -1,4 +1,4 @@
--- `step`. The entry counts as expanded; its row is a part of the table, which is within it.
+-- `step`. The row of an entry is a part of the table, which is within it.
 use mathlib.Core.Path.{_≡_, sym, ap, _∙_}
 use mathlib.Core.List.{List}
 use Prim.Native.Nat.{ℕ, _+_, _*_, _≤_}
@@ -11,7 +11,6 @@ use Rattle.laws.specs.Parts.{part, part-length}
 use Rattle.laws.specs.Tables.{part-row}
 use Rattle.kept.specs.Laws.{works-fit}
 use Rattle.greedy.specs.Scratch.{row-in}
-use Rattle.greedy.proofs.Noting.{noted-ready, noted-live, noted-moves}
 use Rattle.greedy.proofs.step.Statement.{statement}
 use Rattle.greedy.proofs.step.Tie as tie
 
@@ -19,23 +18,12 @@ use Rattle.greedy.proofs.step.Tie as tie
 row-lent : (n width : ℕ) (table : List ℕ) (i : ℕ) → row width (cleaned n table) i ≡ cleaned n (part (i * width) (i * width + width) table)
 row-lent n width table i = row-cleaned n width table i ∙ ap (cleaned n) (sym (part-row width table i))
 
--- back to the call
-abbrev called : tie.After-shared-slice-known3 → tie.Start
-called c = c .before .before .before .before .before .before .before
-
--- from where the entry is counted, and from where its row is walked
-abbrev lent : tie.After-struct-known → tie.After-shared-slice-known3
-lent c = c .before .before .before .before .before .before .before
-
-abbrev at-row : tie.After-expand-arg4 → tie.After-shared-slice-known3
-at-row c = lent (c .before .before .before .before)
-
 -- the row is within the table
 fits : (c : tie.After-shared-slice-known3)
-    → let a = called c .args in
+    → let a = c .before .before .before .before .before .before .before .args in
     (a .id * a .p .width + a .p .width ≤ length (a .table .now)) × (length (a .table .now) ≤ 8388608)
 fits c =
-    let s = called c in
+    let s = c .before .before .before .before .before .before .before in
     row-in (s .pre .1 .1 .0) (s .pre .0 .space .nodes) (s .args .id) (s .pre .1 .1 .1 .0)
 
 mul-from : tie.Need-mul-from
@@ -46,14 +34,11 @@ add-to c = omega (arith, fits c)
 
 touch-next-requires : tie.Need-touch-next-requires
 touch-next-requires c κs =
-    let s = called (c .before .before .before) in
-    (works-fit (s .pre .1 .0 .is .working), (s .pre .1 .1 .0 .narrow, s .pre .1 .1 .1 .3))
-
-add-expanded : tie.Need-add-expanded
-add-expanded c = let s = called (lent c) in omega (arith, s .pre .0 .space .nodes, s .pre .1 .1 .1 .1)
+    let s = c .before .before .before .before .before .before .before .before .before in
+    (works-fit (s .pre .1 .0 .is .working), (s .pre .1 .1 .0 .narrow, s .pre .1 .1 .1 .2))
 
 mul-expand : tie.Need-mul-expand
-mul-expand c = omega (arith, fits (at-row c))
+mul-expand c = omega (arith, fits (c .before .before .before .before .before .before .before .before .before))
 
 sub-expand : tie.Need-sub-expand
 sub-expand c = search needs
@@ -62,18 +47,16 @@ part-expand-start : tie.Need-part-expand-start
 part-expand-start c = search needs
 
 part-expand-end : tie.Need-part-expand-end
-part-expand-end c = omega (arith, fits (at-row c))
+part-expand-end c = omega (arith, fits (c .before .before .before .before .before .before .before .before .before))
 
 expand-requires : tie.Need-expand-requires
 expand-requires c κs =
-    let q = at-row (c .before) in
-    let s = called q in
+    let q = c .before .before .before .before .before .before .before .before .before .before in
+    let s = q .before .before .before .before .before .before .before in
     let g = s .pre .1 .1 .0 in
     let from = s .args .id * s .args .p .width in
-    let size = part-length from (from + s .args .p .width) (s .args .table .now) (fits q .0) in (
-      noted-ready (s .pre .0),
-      (noted-live (s .args .id) (s .pre .1 .0), (g .measures, record { ids-fit = omega (arith, size, g .narrow); dists-fit = omega arith; few = omega arith })),
-    )
+    let size = part-length from (from + s .args .p .width) (s .args .table .now) (fits q .0) in
+    (s .pre .0, (s .pre .1 .0, (g .measures, record { ids-fit = omega (arith, size, g .narrow); dists-fit = omega arith; few = omega arith })))
 
 same-length : tie.Need-same-length
 same-length c = search needs
@@ -90,8 +73,8 @@ same-length-4 c = search needs
 returns : tie.Need-returns
 returns c =
     let k = c .before .before .before .before .before .before .before .before in
-    let s = called (at-row (k .before .before)) in
-    rw (row-lent (s .args .p .n) (s .args .p .width) (s .args .table .now) (s .args .id)) (noted-moves (s .args .id) (k .expand .ensures))
+    let s = k .before .before .before .before .before .before .before .before .before .before .before .before .before .before .before .before .before .before in
+    rw (row-lent (s .args .p .n) (s .args .p .width) (s .args .table .now) (s .args .id)) (k .expand .ensures)
 
 pub step-spec : {M : Type 1} → statement M
 step-spec =
@@ -100,7 +83,6 @@ step-spec =
     mul-from
     add-to
     touch-next-requires
-    add-expanded
     mul-expand
     sub-expand
     part-expand-start
