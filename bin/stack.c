@@ -12,6 +12,7 @@
 
 #define LIMIT 32768
 #define LIMIT_SEARCH 4095
+#define LIMIT_RECORDS 4159
 #define ROOM (1024 * 1024)
 #define PATTERN 0xA5
 
@@ -175,7 +176,7 @@ struct line {
 
 static struct line lines[] = {
     {"distance", distance, LIMIT, 0},      {"medoid", medoid, LIMIT, 0}, {"batch", batch, LIMIT, 0},          {"open", open_rows, LIMIT, 0},
-    {"close", close_rows, LIMIT, 0},       {"build", build, LIMIT, 0},   {"search", search, LIMIT_SEARCH, 0}, {"records", records, LIMIT_SEARCH, 0},
+    {"close", close_rows, LIMIT, 0},       {"build", build, LIMIT, 0},   {"search", search, LIMIT_SEARCH, 0}, {"records", records, LIMIT_RECORDS, 0},
     {"draw", draw, LIMIT, 0},              {"rows", rows, LIMIT, 0},     {"seeds", seeds, LIMIT, 0},          {"order", order, LIMIT, 0},
     {"pivots", pivots, LIMIT, 0},          {"defaults", defaults, LIMIT, 0}, {"lookup", lookup, LIMIT_SEARCH, 0}, {"fit", fit, LIMIT, 0},
     {"exhaustive", exhaustive, LIMIT, 0},  {"report", report, LIMIT, 0},
