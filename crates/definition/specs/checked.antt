@@ -1,5 +1,6 @@
 -- Computed examples that pin the definition. An edit of the definition that changes an answer is refused here.
--- Samples: document 01's cases. Counts: a search's two counts and its room. Lookups: `lookup` and `fit`. Recalls: exhaustive search and the report. Ties: equal distances. Texts: `seek`.
+-- Samples: document 01's cases. Lookups: `lookup` and `fit`. Counts: a search's two counts and its room. Recalls: exhaustive search and the report.
+-- Ties: equal distances. Texts: `seek`.
 -- Builds: whole builds with the values that 000 gives. Cut: pruning's cut at 750.
 -- Accepts: a call of each kind that is not refused. Opened opens every definition.
 pub mod Opened

@@ -8,13 +8,14 @@ use native.Mathlib.Omega.{arith}
 use lib.ListN.{length}
 use Rattle.definition.specs.Greedy.{State, visitedIds, expand, popped, step, stops, steps}
 use Rattle.laws.specs.Parts.{Within, within-none, within-trans}
+use Rattle.theory.specs.search.Steps.{expand-expanded, step-expanded}
 use Rattle.marks.specs.Visits.{visited-most}
 use Rattle.kept.specs.declared.Popped.{Popped}
 use Rattle.kept.specs.Says.{standing as standing-kept, works, Pops}
 use Rattle.greedy.specs.declared.Plan.{Plan}
 use Rattle.greedy.specs.declared.Walked.{Walked}
 use Rattle.greedy.specs.Scratch.{noted, Standing, standing, walkEnd, Ready, Room, Is, Live, Moves, Leaves, Ends}
-use Rattle.greedy.specs.Cases.{expand-expanded, steps-none, steps-stop, steps-go, step-is, step-expanded}
+use Rattle.greedy.specs.Cases.{steps-none, steps-stop, steps-go, step-is}
 
 -- `left` steps from the state where the scratch is lead where the whole walk from st leads
 pub record Reached (p : Plan) (epoch : ℕ) (dist : ℕ → ℕ) (rows : ℕ → List ℕ) (st : State) (s : Standing) (left : ℕ) : Type 0 where
@@ -165,7 +166,7 @@ module _ {p : Plan} {epoch : ℕ} {dist : ℕ → ℕ} {rows : ℕ → List ℕ}
                     same =
                         q .same ∙ ap (λ (j : ℕ). steps dist rows (p .beam) j (q .state)) k
                         ∙ steps-go dist rows (p .beam) (left - 1) (q .state) (stops-is (q .state) (q .is) true found);
-                    turns = omega (arith, q .turns, step-expanded dist rows (p .beam) (q .state));
+                    turns = omega (arith, q .turns, step-expanded dist (p .beam) rows (q .state));
                   };
               words-kept = within-trans 0 (walkEnd p) (s₀ .words) (s .words) (s₂ .words) (run .words-kept) (m .words-kept);
             }

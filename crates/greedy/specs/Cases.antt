@@ -14,7 +14,7 @@ use Rattle.definition.specs.Greedy.{State, visitedIds, begin, meet, skipped, lo
 use Rattle.laws.specs.Backwards.{map-append}
 use Rattle.marks.specs.Marked.{news}
 use Rattle.kept.specs.Says.{meets}
-use Rattle.kept.specs.Cases.{meet-visited, meets-expanded}
+use Rattle.kept.specs.Cases.{meet-visited}
 use Rattle.greedy.specs.declared.Plan.{Plan}
 use Rattle.greedy.specs.Scratch.{noted, fromStart}
 
@@ -54,10 +54,6 @@ module _ (d : ℕ → ℕ) (beam : ℕ) where
       go true old new = old
       go false old new = new ∙ ap (λ (l : List ℕ). meets beam met (measured d (news l ws))) (meet-ids st w)
 
-pub expand-expanded : (d : ℕ → ℕ) (beam : ℕ) (row : List ℕ) (st : State) → expand d beam st row .expanded ≡ st .expanded
-expand-expanded d beam row st =
-    ap (λ (z : State). z .expanded) (expand-meets d beam row st) ∙ meets-expanded beam st (measured d (news (visitedIds st) row))
-
 -- ---- the steps
 pub steps-none : (d : ℕ → ℕ) (rows : ℕ → List ℕ) (beam : ℕ) (s : State) → steps d rows beam 0 s ≡ s
 unfolding steps
@@ -85,10 +81,6 @@ pub step-is : (d : ℕ → ℕ) (rows : ℕ → List ℕ) (beam : ℕ) (s : Stat
     → step d rows beam s ≡ expand d beam (popped s) (rows id)
 unfolding step
 step-is d rows beam s id e = ap (λ (i : ℕ). expand d beam (popped s) (rows i)) (sym e)
-
-pub step-expanded : (d : ℕ → ℕ) (rows : ℕ → List ℕ) (beam : ℕ) (s : State) → length (step d rows beam s .expanded) ≡ suc (length (s .expanded))
-unfolding step popped
-step-expanded d rows beam s = ap length (expand-expanded d beam (rows (best (s .frontier) .id)) (popped s))
 
 pub greedy-is : (d : ℕ → ℕ) (rows : ℕ → List ℕ) (n beam start : ℕ) → greedy d rows n beam start ≡ steps d rows beam n (begin d beam start)
 unfolding greedy

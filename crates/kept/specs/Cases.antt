@@ -27,10 +27,6 @@ module _ (beam : ℕ) (x : Item) (st : State) where
   unfolding meet
   meet-visited = refl
 
-  pub meet-expanded : meet beam x st .expanded ≡ st .expanded
-  unfolding meet
-  meet-expanded = refl
-
 -- ---- entries that are met, one after another
 pub meets-none : (beam : ℕ) (st : State) → meets beam st [] ≡ st
 unfolding meets
@@ -50,8 +46,3 @@ unfolding meets
 meets-visited beam st [] = sym (append-nil (st .visited))
 meets-visited beam st (x ∷ xs) =
     meets-visited beam (meet beam x st) xs ∙ ap (λ (z : List Item). z ++ xs) (meet-visited beam x st) ∙ append-assoc (st .visited) (x ∷ []) xs
-
-pub meets-expanded : (beam : ℕ) (st : State) (l : List Item) → meets beam st l .expanded ≡ st .expanded
-unfolding meets
-meets-expanded beam st [] = refl
-meets-expanded beam st (x ∷ xs) = meets-expanded beam (meet beam x st) xs ∙ meet-expanded beam x st

@@ -32,7 +32,8 @@ use Rattle.laws.specs.Apart.{apart-nodup}
 use Rattle.laws.specs.Items.{idsOf, id-in}
 use Rattle.laws.specs.Tables.{row-length}
 use Rattle.theory.specs.search.Ground.{Ground}
-use Rattle.theory.specs.search.Along.{Kept, step-expands}
+use Rattle.theory.specs.search.Steps.{step-expands}
+use Rattle.theory.specs.search.Along.{Kept}
 use Rattle.theory.specs.search.Ends.{begun-keeps, steps-stay, steps-add, greedy-enough, greedy-keeps, visited-below}
 use Rattle.theory.specs.search.Counted.{visited-most, expanded-within, visited-few, beam-one-begins}
 use Rattle.theory.specs.search.Left.{left-unexpanded, BestUnexpanded, step-from-work}
@@ -70,7 +71,7 @@ unexpanded-beam-enough g some k on =
     let s = after g k in
     let one : step (g .d) (g .rows) (g .beam) s ≡ steps (g .d) (g .rows) (g .beam) 1 s = rw on refl in
     let next = ap (λ (t : State). t .expanded) (sym (one ∙ after-more g k 1)) in
-    (best (s .frontier), step-from-work g some s (begun-keeps g k) on, next ∙ step-expands g s)
+    (best (s .frontier), step-from-work g some s (begun-keeps g k) on, next ∙ step-expands (g .d) (g .beam) (g .rows) s)
 
 -- of a call: k steps of its walk
 abbrev pub walkedFor : SearchCall → ℕ → State

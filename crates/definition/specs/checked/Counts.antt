@@ -3,10 +3,10 @@ use Prim.Native.Nat.{ℕ}
 use mathlib.Core.List.{List, [], _∷_, _++_, map}
 use mathlib.Core.Path.{_≡_, refl}
 use lib.ListN.{replicate}
-use lib.Ieee.{Float, toUnsigned}
+use lib.Ieee.{toUnsigned}
 use Rattle.definition.specs.Floats.{nought}
 use Rattle.definition.specs.Refusals.{SearchCall}
-use Rattle.definition.specs.Outcome.{SearchOut, searchOut, lookupOut, recordsOut}
+use Rattle.definition.specs.Outcome.{searchOut, lookupOut, recordsOut}
 use Rattle.definition.specs.checked.Opened.{opened}
 use Rattle.definition.specs.checked.Samples.{Sample, case₁, asWhole, fields, line, lineRows, lineCall}
 use Rattle.definition.specs.checked.Lookups.{strayRows, tableCall, enough}

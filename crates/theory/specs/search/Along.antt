@@ -21,7 +21,7 @@ use Rattle.laws.specs.Items.{idsOf, id-in, ids-elim, ids-within, ids-snoc, wors
 use Rattle.laws.specs.Inserts.{capped-room}
 use Rattle.theory.specs.search.Tells.{Reachable, from-start}
 use Rattle.theory.specs.search.Ground.{Ground}
-use Rattle.theory.specs.search.Steps.{meet-cases}
+use Rattle.theory.specs.search.Steps.{meet-cases, look-expanded, expand-expanded}
 use Rattle.theory.specs.search.Invariant.{Seen, Waiting, Holding, seen-more, waiting-same, waiting-more, holding-room, holding-out, holding-full}
 
 -- two that were visited and have one id are one
@@ -74,10 +74,6 @@ module _ (g : Ground) where
       go false p true q = skip (inr (isIn-mem w (visitedIds s) q))
       go false p false q = take (eqb-false w pad p) (isIn-none w (visitedIds s) q)
 
-  look-expanded : (s : State) (w : ℕ) → look d beam s w .expanded ≡ s .expanded
-  unfolding meet
-  look-expanded s w = look-cases (λ t. t .expanded ≡ s .expanded) s w (λ h. refl) (λ p q. refl)
-
   look-stays : (s : State) (w : ℕ) (c : Item) → Mem c (s .visited) → Mem c (look d beam s w .visited)
   unfolding meet
   look-stays s w c m = look-cases (λ t. Mem c (t .visited)) s w (λ h. m) (λ p q. in-front (item (d w) w ∷ []) m)
@@ -97,11 +93,6 @@ module _ (g : Ground) where
       skip (inr m) = m
 
   -- ---- a row
-
-  expand-expanded : (ws : List ℕ) (s : State) → expand d beam s ws .expanded ≡ s .expanded
-  unfolding expand
-  expand-expanded [] s = refl
-  expand-expanded (w ∷ ws) s = expand-expanded ws (look d beam s w) ∙ look-expanded s w
 
   expand-stays : (ws : List ℕ) (s : State) (c : Item) → Mem c (s .visited) → Mem c (expand d beam s ws .visited)
   unfolding expand
@@ -193,7 +184,7 @@ module _ (g : Ground) where
   unfolding expand
   expand-keeps [] s e is-expanded on-row k = k
   expand-keeps (w ∷ ws) s e is-expanded on-row k =
-      expand-keeps ws (look d beam s w) e (subst (λ (l : List ℕ). Mem e l) (sym (look-expanded s w)) is-expanded) (λ u m. on-row u (there m))
+      expand-keeps ws (look d beam s w) e (subst (λ (l : List ℕ). Mem e l) (sym (look-expanded d beam s w)) is-expanded) (λ u m. on-row u (there m))
       (look-keeps s w e is-expanded (on-row w (here refl)) k)
 
   pub step-keeps : (s : State) → 0 < length (s .frontier) → Invariant s → Invariant (step d rows beam s)
@@ -202,7 +193,7 @@ module _ (g : Ground) where
       let b = best (s .frontier) .id in
       record {
         kept = expand-keeps (rows b) (popped s) b (here refl) (λ w m. m) (popped-keeps s some (v .kept));
-        walked = λ e w m on-row no-pad. go e w on-row no-pad (cases (subst (λ (l : List ℕ). Mem e l) (expand-expanded (rows b) (popped s)) m));
+        walked = λ e w m on-row no-pad. go e w on-row no-pad (cases (subst (λ (l : List ℕ). Mem e l) (expand-expanded d beam (rows b) (popped s)) m));
       }
     where
       go : (e w : ℕ) → Mem w (rows e) → w ≢ pad → (e ≡ best (s .frontier) .id) ⊎ Mem e (s .expanded)
@@ -210,17 +201,10 @@ module _ (g : Ground) where
       go e w on-row no-pad (inl p) = expand-visits (rows (best (s .frontier) .id)) (popped s) w (subst (λ (i : ℕ). Mem w (rows i)) p on-row) no-pad
       go e w on-row no-pad (inr m) = expand-grows (rows (best (s .frontier) .id)) (popped s) w (v .walked e w m on-row no-pad)
 
-  -- what was visited stays so; the best of the frontier is expanded, and nobody else
+  -- what was visited stays so
   pub step-stays : (s : State) (c : Item) → Mem c (s .visited) → Mem c (step d rows beam s .visited)
   unfolding step popped
   step-stays s = expand-stays (rows (best (s .frontier) .id)) (popped s)
-
-  pub step-expands : (s : State) → step d rows beam s .expanded ≡ best (s .frontier) .id ∷ s .expanded
-  unfolding step popped
-  step-expands s = expand-expanded (rows (best (s .frontier) .id)) (popped s)
-
-  pub step-expanded : (s : State) → length (step d rows beam s .expanded) ≡ suc (length (s .expanded))
-  step-expanded s = ap (λ (l : List ℕ). length l) (step-expands s)
 
   -- ---- the beginning
 

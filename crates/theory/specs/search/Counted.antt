@@ -13,7 +13,8 @@ use Rattle.definition.specs.Greedy.{State, begin, meet, look, expand, popped, s
 use Rattle.laws.specs.Apart.{apart-within, apart-below}
 use Rattle.laws.specs.Items.{idsOf, ids-elim, best-in}
 use Rattle.theory.specs.search.Ground.{Ground}
-use Rattle.theory.specs.search.Along.{Kept, look-cases, step-expanded, begin-keeps}
+use Rattle.theory.specs.search.Steps.{step-expanded}
+use Rattle.theory.specs.search.Along.{Kept, look-cases, begin-keeps}
 use Rattle.theory.specs.search.Ends.{steps-keep}
 
 module _ (g : Ground) where
@@ -52,7 +53,7 @@ module _ (g : Ground) where
     step-few s some k few =
         let b = best (s .frontier) in
         let size = narrow (b .id) (k .seen .below b (k .waiting .seen b (best-in (s .frontier) some))) in
-        rw (step-expanded g s, mul-suc w (length (s .expanded))) (omega (arith, step-adds s, size))
+        rw (step-expanded d beam rows s, mul-suc w (length (s .expanded))) (omega (arith, step-adds s, size))
 
     pub visited-few : length (greedy d rows n beam start .visited) ≤ 1 + w * length (greedy d rows n beam start .expanded)
     unfolding greedy begin

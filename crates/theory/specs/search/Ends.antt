@@ -17,7 +17,8 @@ use Rattle.laws.specs.Truth.{branch}
 use Rattle.laws.specs.Apart.{apart-below}
 use Rattle.laws.specs.Items.{ids-elim}
 use Rattle.theory.specs.search.Ground.{Ground}
-use Rattle.theory.specs.search.Along.{Kept, Invariant, popped-keeps, step-keeps, step-stays, step-expanded, begin-keeps}
+use Rattle.theory.specs.search.Steps.{step-expanded}
+use Rattle.theory.specs.search.Along.{Kept, Invariant, popped-keeps, step-keeps, step-stays, begin-keeps}
 
 module _ (g : Ground) where
   open Ground g using (d, rows, n, beam, start)
@@ -74,7 +75,7 @@ module _ (g : Ground) where
   steps-end (suc fuel) s v enough =
       stops-cases (λ b. Done (cond b s (steps d rows beam fuel (step d rows beam s)))) s
       (λ e. record { invariant = v; stopped = e })
-      (λ e some. steps-end fuel (step d rows beam s) (step-keeps g s some v) (omega (arith, step-expanded g s)))
+      (λ e some. steps-end fuel (step d rows beam s) (step-keeps g s some v) (omega (arith, step-expanded d beam rows s)))
 
   pub greedy-done : Done (greedy d rows n beam start)
   unfolding greedy

@@ -17,7 +17,8 @@ use Rattle.laws.specs.Items.{best-in, best-after}
 use Rattle.laws.specs.Inserts.{capped-nearer}
 use Rattle.theory.specs.search.Ground.{Ground}
 use Rattle.theory.specs.search.Invariant.{Shut, shut-insert}
-use Rattle.theory.specs.search.Along.{Invariant, look-cases, step-expands}
+use Rattle.theory.specs.search.Steps.{step-expands}
+use Rattle.theory.specs.search.Along.{Invariant, look-cases}
 use Rattle.theory.specs.search.Ends.{on-waits, steps-keep}
 
 module _ (g : Ground) (some : 0 < g .beam) (c : Item) where
@@ -68,7 +69,7 @@ module _ (g : Ground) (some : 0 < g .beam) (c : Item) where
   module _ (own : c .dist ≡ d (c .id)) where
     step-out : (s : State) → stops beam s ≡ false → 0 < length (s .frontier) → Invariant g s → Out s → Out (step d rows beam s)
     step-out s on waiting v o =
-        record { shut = step-shut s (o .shut); unexpanded = λ m. go (cases (subst (λ (l : List ℕ). Mem (c .id) l) (step-expands g s) m)) }
+        record { shut = step-shut s (o .shut); unexpanded = λ m. go (cases (subst (λ (l : List ℕ). Mem (c .id) l) (step-expands d beam rows s) m)) }
       where
         b : Item
         b = best (s .frontier)

@@ -1,15 +1,16 @@
--- One word of a row, by cases: what `meet` leaves. Proofs cite these and do not open the definition.
+-- One word of a row, by cases: what `meet` leaves; and what a row and a step expand. Proofs cite these and do not open the definition.
 use Prim.Native.Nat.{ℕ, suc, _≤_, _<_}
 use native.Mathlib.Omega.{arith}
-use mathlib.Core.Path.{_≡_, refl, sym, subst}
+use mathlib.Core.Path.{_≡_, refl, sym, ap, _∙_, subst}
 use mathlib.Core.Bool.{Bool, true, false, _||_, cond}
 use mathlib.Core.List.{List, [], _∷_, List·Memᴰ as Mem}
 use mathlib.Core.List.{List·Memᴰ·not-nil as not-nil}
 use borrow.Author.Tests.{ltb-true, ltb-false}
 use lib.Dec.{ltb}
 use lib.ListN.{length}
-use Rattle.definition.specs.Beam.{Item, worse, insert, insertCapped, beatsWorst}
-use Rattle.definition.specs.Greedy.{State, admitted}
+use Rattle.definition.specs.Beam.{Item, worse, insert, insertCapped, best, beatsWorst}
+use Rattle.definition.specs.Greedy.{State, admitted, meet, skipped, look, expand, popped, step}
+use Rattle.laws.specs.Truth.{either}
 use Rattle.laws.specs.Members.{cons-elim}
 use Rattle.laws.specs.Sorting.{Ordered, more}
 use Rattle.laws.specs.Items.{worse-dist}
@@ -50,3 +51,23 @@ meet-cases P beam c s most sorted room full out = by-room (ltb (length (s .work)
         let h = ltb-true (length (s .work)) beam p in
         subst (λ (l : List Item). P (insert c (s .frontier)) l) (sym (capped-room beam c (s .work) h)) (room h)
     by-room false p = by-worst (s .work) refl sorted most (ltb-false (length (s .work)) beam p)
+
+-- ---- a row expands nobody, and a step the best of the frontier
+
+module _ (d : ℕ → ℕ) (beam : ℕ) where
+  pub look-expanded : (s : State) (w : ℕ) → look d beam s w .expanded ≡ s .expanded
+  unfolding look meet
+  look-expanded s w = either (λ (t : State). t .expanded ≡ s .expanded) (skipped s w) refl refl
+
+  pub expand-expanded : (ws : List ℕ) (s : State) → expand d beam s ws .expanded ≡ s .expanded
+  unfolding expand
+  expand-expanded [] s = refl
+  expand-expanded (w ∷ ws) s = expand-expanded ws (look d beam s w) ∙ look-expanded s w
+
+  module _ (rows : ℕ → List ℕ) (s : State) where
+    pub step-expands : step d rows beam s .expanded ≡ best (s .frontier) .id ∷ s .expanded
+    unfolding step popped
+    step-expands = expand-expanded (rows (best (s .frontier) .id)) (popped s)
+
+    pub step-expanded : length (step d rows beam s .expanded) ≡ suc (length (s .expanded))
+    step-expanded = ap length step-expands
