@@ -1,5 +1,5 @@
 -- Where everything lies in the two lent slices, for n entries: each offset stands here and nowhere else. A name that ends in `At` is where a region begins,
--- one in `End` where it ends. The theorems at the end say that the regions lie apart and together are just the room that 01 states.
+-- one in `End` where it ends. The theorems at the end say that the regions lie apart and together are just the room that the definition states.
 use mathlib.Core.Path.{_≡_, refl, sym, subst}
 use mathlib.Core.Logic.{_⊎_, inl, inr}
 use mathlib.Core.List.{List, [], _∷_, List·Memᴰ as Mem, List·Memᴰ·not-nil as not-nil, List·Memᴰ·cases-cons as cases}
