@@ -1,6 +1,8 @@
--- Part 1. The byte metric, the vectors, and the f32 value of a whole distance.
+-- Part 1, with 5/13's rule for saturated samples. The byte metric, the vectors, and the f32 value of a whole distance.
 use Prim.Native.Nat.{ℕ, _+_, _-_, _*_}
+use mathlib.Core.Bool.{Bool, cond, _||_}
 use mathlib.Core.List.{List, [], _∷_}
+use lib.Dec.{eqb}
 use lib.ListN.{take, drop}
 use lib.IntN.{pos}
 use lib.Ieee.{Float, binary32, ofInt}
@@ -9,9 +11,13 @@ use lib.Ieee.{Float, binary32, ofInt}
 unfoldable pub gap : ℕ → ℕ → ℕ
 gap a b = (a - b) + (b - a)
 
--- what one sample adds to the distance
+-- a sample of 255: the receiver clipped
+unfoldable pub saturated : ℕ → Bool
+saturated a = eqb a 255
+
+-- what one sample adds to the distance: nothing where it is saturated in either vector
 unfoldable pub squared : ℕ → ℕ → ℕ
-squared a b = gap a b * gap a b
+squared a b = cond (saturated a || saturated b) 0 (gap a b * gap a b)
 
 -- a sum over the samples of two vectors
 unfoldable pub summed : (ℕ → ℕ → ℕ) → List ℕ → List ℕ → ℕ
@@ -19,7 +25,7 @@ summed adds [] ys = 0
 summed adds (x ∷ xs) [] = 0
 summed adds (x ∷ xs) (y ∷ ys) = adds x y + summed adds xs ys
 
--- the distance of two vectors: the sum of squared byte differences
+-- the distance of two vectors: the sum of the squared byte differences that are not saturated
 unfoldable pub metric : List ℕ → List ℕ → ℕ
 metric xs ys = summed squared xs ys
 

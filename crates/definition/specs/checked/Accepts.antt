@@ -82,7 +82,7 @@ lineBuild =
 
 -- ---- none is refused
 
-pub distance-passes : distanceNumber (record { first = 0 ∷ []; second = 255 ∷ [] }) ≡ 0
+pub distance-passes : distanceNumber (record { first = 0 ∷ []; second = 254 ∷ [] }) ≡ 0
 unfolding opened
 distance-passes = refl
 

@@ -24,7 +24,7 @@ unfolding add lt ofInt ofBits mul div
     Lists.each Lists.keep Lists.place Lists.sort Lists.joined Lists.run Lists.upto Lists.isIn Lists.distinct Lists.onceOnly Lists.rising
     Lists.total Lists.groups Lists.over Lists.cleared
     Floats.nought Floats.one Floats.onePointTwo Floats.four Floats.largest Floats.larger Floats.smaller Floats.times Floats.divided Floats.above
-    Metric.gap Metric.squared Metric.summed Metric.metric Metric.vector Metric.fromQuery Metric.between Metric.whole
+    Metric.gap Metric.saturated Metric.squared Metric.summed Metric.metric Metric.vector Metric.fromQuery Metric.between Metric.whole
     Tables.pad Tables.row Tables.ids Tables.padded Tables.tableOf Tables.onlyPad Tables.idsFirst Tables.buildRow Tables.buildRule Tables.searchRule
     Tables.cleaned
     Slack.slackFactor Slack.ceil Slack.slackByFloats Slack.slack

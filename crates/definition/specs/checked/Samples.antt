@@ -80,10 +80,15 @@ case₁ g w = case (g ∷ []) (w ∷ [])
 
 unfoldable pub samples : List Sample
 samples =
-    -- distance of 0 and 255; 256 such samples; dim 257
-    case₁ (distanceOf (0 ∷ []) (255 ∷ [])) (0 ∷ 0 ∷ 0 ∷ 0 ∷ 65025 ∷ 0 ∷ 0 ∷ []) ∷
-    case₁ (distanceOf (replicate 256 0) (replicate 256 255)) (0 ∷ 0 ∷ 0 ∷ 0 ∷ 16646400 ∷ 0 ∷ 0 ∷ []) ∷
-    case₁ (distanceOf (replicate 257 0) (replicate 257 255)) (1 ∷ 0 ∷ 0 ∷ 0 ∷ 0 ∷ 0 ∷ 0 ∷ []) ∷
+    -- distance of 0 and 254; 256 such samples; dim 257
+    case₁ (distanceOf (0 ∷ []) (254 ∷ [])) (0 ∷ 0 ∷ 0 ∷ 0 ∷ 64516 ∷ 0 ∷ 0 ∷ []) ∷
+    case₁ (distanceOf (replicate 256 0) (replicate 256 254)) (0 ∷ 0 ∷ 0 ∷ 0 ∷ 16516096 ∷ 0 ∷ 0 ∷ []) ∷
+    case₁ (distanceOf (replicate 257 0) (replicate 257 254)) (1 ∷ 0 ∷ 0 ∷ 0 ∷ 0 ∷ 0 ∷ 0 ∷ []) ∷
+    -- distance of 0 and 255, of 255 and 0, of 254 and 255; 255 in one place or the other, and 3 and 7 between (as 5/13 gives them)
+    case₁ (distanceOf (0 ∷ []) (255 ∷ [])) (0 ∷ 0 ∷ 0 ∷ 0 ∷ 0 ∷ 0 ∷ 0 ∷ []) ∷
+    case₁ (distanceOf (255 ∷ []) (0 ∷ [])) (0 ∷ 0 ∷ 0 ∷ 0 ∷ 0 ∷ 0 ∷ 0 ∷ []) ∷
+    case₁ (distanceOf (254 ∷ []) (255 ∷ [])) (0 ∷ 0 ∷ 0 ∷ 0 ∷ 0 ∷ 0 ∷ 0 ∷ []) ∷
+    case₁ (distanceOf (0 ∷ 3 ∷ 255 ∷ []) (255 ∷ 7 ∷ 9 ∷ [])) (0 ∷ 0 ∷ 0 ∷ 0 ∷ 16 ∷ 0 ∷ 0 ∷ []) ∷
     -- line, query 38: beam 2, k 2; beam 1; beam 0; beam 8, k 8
     case (lineSearch line 38 2 2) ((0 ∷ 2 ∷ []) ∷ (3 ∷ 2 ∷ []) ∷ (4 ∷ 64 ∷ []) ∷ []) ∷
     case (lineSearch line 38 1 2) ((0 ∷ 1 ∷ []) ∷ (0 ∷ []) ∷ (784 ∷ []) ∷ []) ∷
@@ -93,11 +98,15 @@ samples =
     case (lineSearch line 25 4 4) ((0 ∷ 4 ∷ []) ∷ (2 ∷ 1 ∷ 3 ∷ 0 ∷ []) ∷ (25 ∷ 25 ∷ 225 ∷ 225 ∷ []) ∷ []) ∷
     -- vectors 10, 20, 30, 25, query 25, beam 2, k 2: entry 3 at 0 is missed (as 3/13 gives it)
     case (lineSearch (10 ∷ 20 ∷ 30 ∷ 25 ∷ []) 25 2 2) ((0 ∷ 2 ∷ []) ∷ (2 ∷ 1 ∷ []) ∷ (25 ∷ 25 ∷ []) ∷ []) ∷
+    -- line, a saturated query, beam 4, k 4: every entry at 0, the higher id first
+    case (lineSearch line 255 4 4) ((0 ∷ 4 ∷ []) ∷ (3 ∷ 2 ∷ 1 ∷ 0 ∷ []) ∷ (0 ∷ 0 ∷ 0 ∷ 0 ∷ []) ∷ []) ∷
     -- pruning (0,0) with (20,0), (11,18), (0,30): alpha 1.0, alpha 1.2
     case₁ (pruned (0 ∷ 0 ∷ 20 ∷ 0 ∷ 11 ∷ 18 ∷ 0 ∷ 30 ∷ []) (1 ∷ 2 ∷ 3 ∷ []) 0x3F800000) (1 ∷ 3 ∷ []) ∷
     case₁ (pruned (0 ∷ 0 ∷ 20 ∷ 0 ∷ 11 ∷ 18 ∷ 0 ∷ 30 ∷ []) (1 ∷ 2 ∷ 3 ∷ []) 0x3F99999A) (1 ∷ 3 ∷ 2 ∷ []) ∷
     -- pruning (0,0) with (10,0), (5,9), alpha 1: the quotient is 1.0
     case₁ (pruned (0 ∷ 0 ∷ 10 ∷ 0 ∷ 5 ∷ 9 ∷ []) (1 ∷ 2 ∷ []) 0x3F800000) (1 ∷ 2 ∷ []) ∷
+    -- pruning (0,0) with (10,0), (10,255), (0,30), alpha 1.2: the second lies at 0 of the first, and is shadowed
+    case₁ (pruned (0 ∷ 0 ∷ 10 ∷ 0 ∷ 10 ∷ 255 ∷ 0 ∷ 30 ∷ []) (1 ∷ 2 ∷ 3 ∷ []) 0x3F99999A) (1 ∷ 3 ∷ []) ∷
     -- line, pivots 0, 3: scores and medoid
     case₁ (map (λ i. asWhole (score (between 1 line) (0 ∷ 3 ∷ []) i)) (0 ∷ 1 ∷ 2 ∷ 3 ∷ [])) (900 ∷ 500 ∷ 500 ∷ 900 ∷ []) ∷
     case₁ (fields (medoidOut (record { n = 4; dim = 1; vectors = line; pivots = 0 ∷ 3 ∷ [] }))) (0 ∷ 0 ∷ 1 ∷ 0 ∷ 0 ∷ 0 ∷ 0 ∷ []) ∷
