@@ -4,11 +4,16 @@
 use Prim.Native.Nat.{ℕ, zero, suc, _+_, _-_, _*_, _≤_, _<_, zero-le}
 use native.Mathlib.Nat.{add-comm, mul-le-mul}
 use native.Mathlib.Omega.{arith}
-use mathlib.Core.Path.{_≡_, refl, ap₂}
+use borrow.Author.Tests.{eqb-false, eq-eqb, ne-eqb}
+use mathlib.Core.Path.{_≡_, refl, ap, ap₂}
+use mathlib.Core.Bool.{Bool, cond, _||_, or-comm}
+use mathlib.Core.Logic.{_⊎_, inl, inr, ⊎-elim}
 use mathlib.Core.List.{List, [], _∷_}
+use lib.Dec.{eqb}
 use lib.ListN.{length, getD, take, drop, length-take}
 use lib.Seq.{getD-drop}
-use Rattle.definition.specs.Metric.{gap, squared, summed, metric, vector, fromQuery, between}
+use Rattle.definition.specs.Metric.{gap, saturated, squared, summed, metric, vector, fromQuery, between}
+use Rattle.laws.specs.Truth.{branch, either-or, or-neither}
 use Rattle.whole.specs.Whole.{farthest}
 
 -- ---- bytes: each element is below 256, past the end too, where `getD` gives 0. So the borrow checker says it of a slice of bytes
@@ -24,6 +29,10 @@ bytes-take zero l b k = omega arith
 bytes-take (suc n) [] b k = omega arith
 bytes-take (suc n) (x ∷ xs) b zero = b 0
 bytes-take (suc n) (x ∷ xs) b (suc k) = bytes-take n xs (λ j. b (suc j)) k
+
+bytes-one : (x : ℕ) → x < 256 → Bytes (x ∷ [])
+bytes-one x h zero = h
+bytes-one x h (suc k) = omega arith
 
 pub bytes-vector : (dim : ℕ) (vectors : List ℕ) (i : ℕ) → Bytes vectors → Bytes (vector dim vectors i)
 unfolding vector
@@ -41,23 +50,41 @@ pub record GoodMetric (m : List ℕ → List ℕ → ℕ) : Type 0 where
 pub good-most : {m : List ℕ → List ℕ → ℕ} → GoodMetric m → (xs ys : List ℕ) → length xs ≤ 256 → Bytes xs → Bytes ys → m xs ys ≤ farthest
 good-most g xs ys h p q = let k = g .most xs ys p q in omega arith
 
--- ---- the byte metric
+-- ---- the byte metric: what one sample adds
 
-pub gap-most : (a b : ℕ) → a < 256 → b < 256 → gap a b ≤ 255
+pub squared-saturated : (a b : ℕ) → (a ≡ 255) ⊎ (b ≡ 255) → squared a b ≡ 0
+unfolding squared saturated
+squared-saturated a b h =
+    let some = either-or (eqb a 255) (eqb b 255) (⊎-elim (λ e. inl (eq-eqb a 255 e)) (λ e. inr (eq-eqb b 255 e)) h) in
+    ap (λ (t : Bool). cond t 0 (gap a b * gap a b)) some
+
+pub squared-clear : (a b : ℕ) → (a ≡ 255 → ⊥) → (b ≡ 255 → ⊥) → squared a b ≡ gap a b * gap a b
+unfolding squared saturated
+squared-clear a b p q = rw (ne-eqb a 255 p, ne-eqb b 255 q) refl
+
+-- what 0 has, and the square of the gap of two that are not saturated
+squared-cases : (P : ℕ → Type 0) (a b : ℕ) → P 0 → ((a ≡ 255 → ⊥) → (b ≡ 255 → ⊥) → P (gap a b * gap a b)) → P (squared a b)
+unfolding squared saturated
+squared-cases P a b z n =
+    branch P (eqb a 255 || eqb b 255) (λ t. z)
+    (λ t. let e = or-neither (eqb a 255) (eqb b 255) t in n (eqb-false a 255 (e .0)) (eqb-false b 255 (e .1)))
+
+pub squared-most : (a b : ℕ) → a < 256 → b < 256 → squared a b ≤ 64516
 unfolding gap
-gap-most a b p q = omega arith
-
-pub squared-most : (a b : ℕ) → a < 256 → b < 256 → squared a b ≤ 65025
-unfolding squared
-squared-most a b p q = mul-le-mul (gap-most a b p q) (gap-most a b p q)
+squared-most a b p q =
+    squared-cases (λ (s : ℕ). s ≤ 64516) a b zero-le (λ u v. let g : gap a b ≤ 254 = omega arith in mul-le-mul g g)
 
 squared-sym : (a b : ℕ) → squared a b ≡ squared b a
 unfolding squared gap
-squared-sym a b = let e : (a - b) + (b - a) ≡ (b - a) + (a - b) = add-comm (a - b) (b - a) in ap₂ (λ (x y : ℕ). x * y) e e
+squared-sym a b =
+    let e : (a - b) + (b - a) ≡ (b - a) + (a - b) = add-comm (a - b) (b - a) in
+    ap₂ (λ (t : Bool) (s : ℕ). cond t 0 s) (or-comm (saturated a) (saturated b)) (ap (λ (x : ℕ). x * x) e)
 
 squared-same : (a : ℕ) → squared a a ≡ 0
-unfolding squared gap
-squared-same a = let e : (a - a) + (a - a) ≡ 0 = omega arith in ap₂ (λ (x y : ℕ). x * y) e e
+unfolding gap
+squared-same a = squared-cases (λ (s : ℕ). s ≡ 0) a a refl (λ u v. let e : gap a a ≡ 0 = omega arith in ap (λ (x : ℕ). x * x) e)
+
+-- ---- what all of them add
 
 summed-sym : (xs ys : List ℕ) → summed squared xs ys ≡ summed squared ys xs
 unfolding summed
@@ -71,7 +98,8 @@ unfolding summed
 summed-same [] = refl
 summed-same (x ∷ xs) = ap₂ (λ (a b : ℕ). a + b) (squared-same x) (summed-same xs)
 
-summed-most : (xs ys : List ℕ) → Bytes xs → Bytes ys → summed squared xs ys ≤ 65025 * length xs
+-- the sharp bound: 254 x 254 for each sample
+summed-most : (xs ys : List ℕ) → Bytes xs → Bytes ys → summed squared xs ys ≤ 64516 * length xs
 unfolding summed
 summed-most [] ys p q = zero-le
 summed-most (x ∷ xs) [] p q = zero-le
@@ -80,9 +108,21 @@ summed-most (x ∷ xs) (y ∷ ys) p q =
     let b = summed-most xs ys (λ k. p (suc k)) (λ k. q (suc k)) in
     omega arith
 
+pub metric-most : (xs ys : List ℕ) → length xs ≤ 256 → Bytes xs → Bytes ys → metric xs ys ≤ 16516096
+unfolding metric
+metric-most xs ys h p q = let k = summed-most xs ys p q in omega arith
+
 pub byte-metric : GoodMetric metric
 unfolding metric
-byte-metric = record { symmetric = summed-sym; same = summed-same; most = summed-most }
+byte-metric = record { symmetric = summed-sym; same = summed-same; most = λ xs ys p q. let k = summed-most xs ys p q in omega arith }
+
+-- 0 does not mean equal bytes: 0 and 255 lie at 0
+pub metric-zero-unequal : ((xs ys : List ℕ) → Bytes xs → Bytes ys → length xs ≡ length ys → metric xs ys ≡ 0 → xs ≡ ys) → ⊥
+unfolding metric summed squared saturated
+metric-zero-unequal law =
+    let e = law (0 ∷ []) (255 ∷ []) (bytes-one 0 (omega arith)) (bytes-one 255 (omega arith)) refl refl in
+    let z = ap (λ (l : List ℕ). getD l 0 0) e in
+    absurd (omega arith)
 
 -- ---- two entries
 
