@@ -1,4 +1,4 @@
--- What a stretch of two vectors adds to their distance, as the loops go through them, and the eight sums that it is added to.
+-- What a stretch of two vectors adds to their distance, as the loops go through them, and the sixteen sums that it is added to.
 use mathlib.Core.Path.{_≡_, refl, sym, _∙_, subst}
 use mathlib.Core.List.{List, [], _∷_}
 use Prim.Native.Nat.{ℕ, zero, suc, _+_, _≤_, _<_}
@@ -23,9 +23,9 @@ pub record Stretch (a b : List ℕ) (from to : ℕ) : Type 0 where
 pub record Adds (a b : List ℕ) (from to r : ℕ) : Type 0 where
   pub is : r + metric (drop to a) (drop to b) ≡ metric (drop from a) (drop from b)
 
--- eight sums: together they are what the samples before `at` add
-pub record Eight (a b : List ℕ) (at : ℕ) (sums : List ℕ) : Type 0 where
-  pub eight : length sums ≡ 8
+-- sixteen sums: together they are what the samples before `at` add
+pub record Sixteen (a b : List ℕ) (at : ℕ) (sums : List ℕ) : Type 0 where
+  pub sixteen : length sums ≡ 16
   pub together : Adds a b 0 at (total sums)
 
 -- ---- sums: one that grows, none more than all, those from a place on
@@ -70,15 +70,15 @@ adds-small a b from to r p q h e =
     let k = good-most byte-metric (drop from a) (drop from b) (omega arith) (bytes-drop from a p) (bytes-drop from b q) in
     omega (arith, e .is)
 
--- ---- eight sums: at the start, and after a sample more
-pub eight-none : (a b : List ℕ) → Eight a b 0 (replicate 8 0)
+-- ---- sixteen sums: at the start, and after a sample more
+pub sixteen-none : (a b : List ℕ) → Sixteen a b 0 (replicate 16 0)
 unfolding total
-eight-none a b = record { eight = refl; together = adds-none a b 0 }
+sixteen-none a b = record { sixteen = refl; together = adds-none a b 0 }
 
-pub eight-more : (a b : List ℕ) (i : ℕ) (sums : List ℕ) (j x : ℕ) → Eight a b i sums → j < 8 → Adds a b i (i + 1) x
-    → Eight a b (i + 1) (set sums j (getD sums j 0 + x))
-eight-more a b i sums j x e h p =
+pub sixteen-more : (a b : List ℕ) (i : ℕ) (sums : List ℕ) (j x : ℕ) → Sixteen a b i sums → j < 16 → Adds a b i (i + 1) x
+    → Sixteen a b (i + 1) (set sums j (getD sums j 0 + x))
+sixteen-more a b i sums j x e h p =
     record {
-      eight = length-set sums j (getD sums j 0 + x) ∙ e .eight;
-      together = rw (total-more sums j x (omega (arith, e .eight))) (adds-join a b 0 i (i + 1) (total sums) x (e .together) p);
+      sixteen = length-set sums j (getD sums j 0 + x) ∙ e .sixteen;
+      together = rw (total-more sums j x (omega (arith, e .sixteen))) (adds-join a b 0 i (i + 1) (total sums) x (e .together) p);
     }

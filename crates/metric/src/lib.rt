@@ -1,60 +1,93 @@
-// Part 1. The distance of two vectors: the sum of squared byte differences, a whole number.
+// Part 1, with 5/13's rule. The distance of two vectors: the sum of squared byte differences, a whole number. A sample that is 255 in either adds nothing.
 
 use definition::Answer;
 ghost use mathlib.Core.Path.{_≡_};
-ghost use Prim.Native.Nat.{ℕ, _+_, _-_, _*_, _%_, _<_, _≤_};
+ghost use mathlib.Core.Bool.{cond};
+ghost use Prim.Native.Nat.{ℕ, _+_, _-_, _*_, _%_, _<_, _≤_, min, max};
 ghost use lib.ListN.{length, getD};
 ghost use Rattle.definition.specs.Lists.{total};
-ghost use Rattle.definition.specs.Metric.{squared, metric, fromQuery, between};
+ghost use Rattle.definition.specs.Metric.{saturated, squared, metric, fromQuery, between};
 ghost use Rattle.definition.specs.Outcome.{distanceOut};
 ghost use Rattle.whole.specs.Whole.{farthest};
 ghost use Rattle.metric.specs.Exact.{Exact, VectorIn, Distances};
-ghost use Rattle.metric.specs.Stretches.{Stretch, Adds, Eight};
+ghost use Rattle.metric.specs.Stretches.{Stretch, Adds, Sixteen};
 
-// What two samples add to a distance. The difference is signed, and not worked out by a branch, so that eight of them go into one instruction.
+fn higher(x: u8, y: u8) -> u8
+    ensures { λ r. ⌜ r ≡ max x y ⌝ }
+{
+    if x < y {
+        return y;
+    }
+    x
+}
+
+fn lower(x: u8, y: u8) -> u8
+    ensures { λ r. ⌜ r ≡ min x y ⌝ }
+{
+    if x < y {
+        return x;
+    }
+    y
+}
+
+// What the higher of two samples is measured from: the lower, or 255 if it is that itself, so that it adds nothing.
+fn ground(high: u8, low: u8) -> u8
+    ensures { λ r. ⌜ r ≡ cond (saturated high) 255 low ⌝ }
+{
+    if high == 255 {
+        return 255;
+    }
+    low
+}
+
+// What two samples add to a distance. All but the last step is on bytes, and nothing in it is worked out by a branch, so that sixteen of them go into one
+// instruction.
 fn squared(x: u8, y: u8) -> u32
     ensures { λ r. ⌜ r ≡ squared x y ⌝ }
 {
-    let d = x as i32 - y as i32;
-    (d * d) as u32
+    let high = higher(x, y);
+    let low = lower(x, y);
+    let gap = high - ground(high, low);
+    gap as u32 * gap as u32
 }
 
-// Eight samples from `at` on, each added to a sum of its own: the eight sums stay in registers, and are added up once a distance.
-fn add_eight(sums: &mut [u32; 8], a: &[u8], b: &[u8], at: usize)
-    requires { ⌜ Stretch (now a) (now b) at (at + 8) ⌝ }
-    requires { ⌜ Eight (now a) (now b) at (now sums) ⌝ }
-    ensures { λ _. ⌜ Eight (now (a .entry)) (now (b .entry)) (at + 8) (now (sums .exit)) ⌝ }
+// Sixteen samples from `at` on, each added to a sum of its own: the sixteen sums stay in registers, and are added up once a distance.
+fn add_sixteen(sums: &mut [u32; 16], a: &[u8], b: &[u8], at: usize)
+    requires { ⌜ Stretch (now a) (now b) at (at + 16) ⌝ }
+    requires { ⌜ Sixteen (now a) (now b) at (now sums) ⌝ }
+    ensures { λ _. ⌜ Sixteen (now (a .entry)) (now (b .entry)) (at + 16) (now (sums .exit)) ⌝ }
 {
     let mut j = 0;
-    while j < 8 {
+    while j < 16 {
         let k = at + j;
         sums[j] = sums[j] + squared(a[k], b[k]);
         j += 1;
     }
 }
 
-// The samples from `from` up to `to`, eight at a time.
-pub fn add_eights(sums: &mut [u32; 8], a: &[u8], b: &[u8], from: usize, to: usize)
+// The samples from `from` up to `to`, sixteen at a time. No step goes beyond `to` in any case; by `least` that is written so that the compiler does not see how
+// many turns there are. Where it sees it, it puts samples sixteen places apart side by side, and gathers them one by one.
+pub fn add_sixteens(sums: &mut [u32; 16], a: &[u8], b: &[u8], from: usize, to: usize)
     requires { ⌜ Stretch (now a) (now b) from to ⌝ }
-    requires { ⌜ (to - from) % 8 ≡ 0 ⌝ }
-    requires { ⌜ Eight (now a) (now b) from (now sums) ⌝ }
-    ensures { λ _. ⌜ Eight (now (a .entry)) (now (b .entry)) to (now (sums .exit)) ⌝ }
+    requires { ⌜ (to - from) % 16 ≡ 0 ⌝ }
+    requires { ⌜ Sixteen (now a) (now b) from (now sums) ⌝ }
+    ensures { λ _. ⌜ Sixteen (now (a .entry)) (now (b .entry)) to (now (sums .exit)) ⌝ }
 {
     let mut i = from;
     while i < to {
-        add_eight(sums, a, b, i);
-        i += 8;
+        add_sixteen(sums, a, b, i);
+        i = laws::least(i + 16, to);
     }
 }
 
-// The eight sums added up.
-pub fn total(sums: &[u32; 8]) -> u32
-    requires { ⌜ (length (now sums) ≡ 8) × (total (now sums) ≤ farthest) ⌝ }
+// The sixteen sums added up.
+pub fn total(sums: &[u32; 16]) -> u32
+    requires { ⌜ (length (now sums) ≡ 16) × (total (now sums) ≤ farthest) ⌝ }
     ensures { λ r. ⌜ r ≡ total (now (sums .entry)) ⌝ }
 {
     let mut sum: u32 = 0;
     let mut j = 0;
-    while j < 8 {
+    while j < 16 {
         sum += sums[j];
         j += 1;
     }
@@ -75,15 +108,15 @@ pub fn rest(a: &[u8], b: &[u8], from: usize) -> u32
     sum
 }
 
-// The distance of two vectors of one length: eight samples at a time, and then the rest, fewer than eight.
+// The distance of two vectors of one length: sixteen samples at a time, and then the rest, fewer than sixteen.
 fn summed(a: &[u8], b: &[u8]) -> u32
     requires { ⌜ (length (now a) ≡ length (now b)) × (length (now a) ≤ 256) ⌝ }
     ensures { λ r. ⌜ Exact (metric (now (a .entry)) (now (b .entry))) r ⌝ }
 {
-    let eights = a.len() - a.len() % 8;
-    let mut sums = [0u32; 8];
-    add_eights(&mut sums, a, b, 0, eights);
-    total(&sums) + rest(a, b, eights)
+    let sixteens = a.len() - a.len() % 16;
+    let mut sums = [0u32; 16];
+    add_sixteens(&mut sums, a, b, 0, sixteens);
+    total(&sums) + rest(a, b, sixteens)
 }
 
 // The distance of two vectors, or the number of the refusal.

@@ -12,10 +12,10 @@ use Rattle.metric.proofs.total.Reads as reads
 use Rattle.metric.proofs.total.Lts as lts
 
 abbrev Inv-loop : tie.InvT-loop
-Inv-loop sums sum₀ j₀ sum j = (j ≤ 8) × (sum + total (drop j sums) ≡ total sums)
+Inv-loop sums sum₀ j₀ sum j = (j ≤ 16) × (sum + total (drop j sums) ≡ total sums)
 
 abbrev μ-loop : tie.MeasureT-loop
-μ-loop sums sum₀ j₀ sum j = 8 - j
+μ-loop sums sum₀ j₀ sum j = 16 - j
 
 loop-holds : tie.Need-loop-holds Inv-loop μ-loop
 loop-holds c = omega arith

@@ -1,26 +1,26 @@
--- `metric::add_eight` meets its contract. The loop's invariant: the eight sums together are what the samples passed so far add. Assumes nothing.
+-- `metric::add_sixteen` meets its contract. The loop's invariant: the sixteen sums together are what the samples passed so far add. Assumes nothing.
 use mathlib.Core.Path.{_≡_, subst}
 use Prim.Native.Nat.{ℕ, _+_, _-_, _≤_}
 use native.Mathlib.Nat.{add-zero, add-assoc}
 use native.Mathlib.Omega.{arith}
 use lib.ListN.{getD, set}
-use Rattle.metric.specs.Stretches.{Eight, adds-one, adds-small, total-more, sum-total, eight-more}
+use Rattle.metric.specs.Stretches.{Sixteen, adds-one, adds-small, total-more, sum-total, sixteen-more}
 use borrow.Author.Needs.{needs}
-use Rattle.metric.proofs.add_eight.Statement.{statement}
-use Rattle.metric.proofs.add_eight.Tie as tie
-use Rattle.metric.proofs.add_eight.Reads as reads
-use Rattle.metric.proofs.add_eight.Lts as lts
+use Rattle.metric.proofs.add_sixteen.Statement.{statement}
+use Rattle.metric.proofs.add_sixteen.Tie as tie
+use Rattle.metric.proofs.add_sixteen.Reads as reads
+use Rattle.metric.proofs.add_sixteen.Lts as lts
 use Rattle.metric.proofs.squared.Reads as squared-reads
 
 abbrev Inv-loop : tie.InvT-loop
-Inv-loop sums₀ a b at j₀ sums j = (j ≤ 8) × Eight a b (at + j) sums
+Inv-loop sums₀ a b at j₀ sums j = (j ≤ 16) × Sixteen a b (at + j) sums
 
 abbrev μ-loop : tie.MeasureT-loop
-μ-loop sums₀ a b at j₀ sums j = 8 - j
+μ-loop sums₀ a b at j₀ sums j = 16 - j
 
 -- after a turn's square is added
 turn : (c : tie.After-squared Inv-loop μ-loop) → let l = c .before .before .before .before .before in let s = l .before .before .before in
-    Eight (s .args .a .now) (s .args .b .now) (s .args .at + (l .loop .j + 1))
+    Sixteen (s .args .a .now) (s .args .b .now) (s .args .at + (l .loop .j + 1))
     (set (l .loop .sums) (l .loop .j) (getD (l .loop .sums) (l .loop .j) 0 + c .squared .result))
 turn c =
     let l = c .before .before .before .before .before in
@@ -29,7 +29,7 @@ turn c =
     let p = s .pre .0 in
     let one = adds-one (s .args .a .now) (s .args .b .now) k (p .alike) (omega (arith, p .inside)) in
     rw (← add-assoc (s .args .at) (l .loop .j) 1)
-    (eight-more _ _ k (l .loop .sums) (l .loop .j) _ (l .loop .inv .1) (omega arith) (rw (c .squared .ensures) one))
+    (sixteen-more _ _ k (l .loop .sums) (l .loop .j) _ (l .loop .inv .1) (omega arith) (rw (c .squared .ensures) one))
 
 loop-holds : tie.Need-loop-holds Inv-loop μ-loop
 loop-holds c = let s = c .before .before in (search needs, rw (add-zero (s .args .at)) (s .pre .1))
@@ -58,7 +58,7 @@ add-sums c =
     let known = l .before .before .shared-slice-known in
     let known2 = l .before .shared-slice-known2 in
     let t = turn c in
-    let more = total-more (l .loop .sums) (l .loop .j) (c .squared .result) (omega (arith, l .loop .inv .1 .eight)) in
+    let more = total-more (l .loop .sums) (l .loop .j) (c .squared .result) (omega (arith, l .loop .inv .1 .sixteen)) in
     let least = sum-total (l .loop .sums) (l .loop .j) in
     omega (arith, adds-small _ _ _ _ _ (λ k. known .given k .fits) (λ k. known2 .given k .fits) (l .before .before .before .pre .0 .few) (t .together))
 
@@ -81,11 +81,11 @@ returns : tie.Need-returns Inv-loop μ-loop
 returns c =
     let l = c .before in
     let s = l .before .before .before in
-    let at : s .args .at + l .loop .j ≡ s .args .at + 8 = omega (arith, l .loop .inv .0, c .loop-test .left) in
-    subst (λ (k : ℕ). Eight (s .args .a .now) (s .args .b .now) k (l .loop .sums)) at (l .loop .inv .1)
+    let at : s .args .at + l .loop .j ≡ s .args .at + 16 = omega (arith, l .loop .inv .0, c .loop-test .left) in
+    subst (λ (k : ℕ). Sixteen (s .args .a .now) (s .args .b .now) k (l .loop .sums)) at (l .loop .inv .1)
 
-pub add-eight-spec : {M : Type 1} → statement M
-add-eight-spec =
+pub add-sixteen-spec : {M : Type 1} → statement M
+add-sixteen-spec =
     tie.close
     (tie.spec
     Inv-loop
