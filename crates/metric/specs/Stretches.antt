@@ -23,10 +23,10 @@ pub record Stretch (a b : List ℕ) (from to : ℕ) : Type 0 where
 pub record Adds (a b : List ℕ) (from to r : ℕ) : Type 0 where
   pub is : r + metric (drop to a) (drop to b) ≡ metric (drop from a) (drop from b)
 
--- sixteen sums: together they are what the samples before `at` add
-pub record Sixteen (a b : List ℕ) (at : ℕ) (sums : List ℕ) : Type 0 where
+-- sixteen sums: with what the samples from `at` on add, they are d
+pub record Sixteen (a b : List ℕ) (at d : ℕ) (sums : List ℕ) : Type 0 where
   pub sixteen : length sums ≡ 16
-  pub together : Adds a b 0 at (total sums)
+  pub is : total sums + metric (drop at a) (drop at b) ≡ d
 
 -- ---- sums: one that grows, none more than all, those from a place on
 pub total-more : (sums : List ℕ) (j x : ℕ) → j < length sums → total (set sums j (getD sums j 0 + x)) ≡ total sums + x
@@ -64,21 +64,27 @@ pub adds-all : (a b : List ℕ) (r : ℕ) → Adds a b 0 (length a) r → r ≡ 
 unfolding metric summed
 adds-all a b r p = sym (add-zero r) ∙ subst (λ (l : List ℕ). r + metric l (drop (length a) b) ≡ metric a b) (drop-of-length-le a (le-refl (length a))) (p .is)
 
-pub adds-small : (a b : List ℕ) (from to r : ℕ) → Bytes a → Bytes b → length a ≤ 256 → Adds a b from to r → r ≤ farthest
-adds-small a b from to r p q h e =
+-- what the samples from a place on add is small, and so is any part of it
+pub from-small : (a b : List ℕ) (from : ℕ) → Bytes a → Bytes b → length a ≤ 256 → metric (drop from a) (drop from b) ≤ farthest
+from-small a b from p q h =
     let l = length-drop from a in
-    let k = good-most byte-metric (drop from a) (drop from b) (omega arith) (bytes-drop from a p) (bytes-drop from b q) in
-    omega (arith, e .is)
+    good-most byte-metric (drop from a) (drop from b) (omega arith) (bytes-drop from a p) (bytes-drop from b q)
 
--- ---- sixteen sums: at the start, and after a sample more
-pub sixteen-none : (a b : List ℕ) → Sixteen a b 0 (replicate 16 0)
+pub adds-small : (a b : List ℕ) (from to r : ℕ) → Bytes a → Bytes b → length a ≤ 256 → Adds a b from to r → r ≤ farthest
+adds-small a b from to r p q h e = let k = from-small a b from p q h in omega (arith, e .is)
+
+-- ---- sixteen sums: at the start, after a sample more, and at the end
+pub sixteen-none : (a b : List ℕ) (from : ℕ) → Sixteen a b from (metric (drop from a) (drop from b)) (replicate 16 0)
 unfolding total
-sixteen-none a b = record { sixteen = refl; together = adds-none a b 0 }
+sixteen-none a b from = record { sixteen = refl; is = zero-add (metric (drop from a) (drop from b)) }
 
-pub sixteen-more : (a b : List ℕ) (i : ℕ) (sums : List ℕ) (j x : ℕ) → Sixteen a b i sums → j < 16 → Adds a b i (i + 1) x
-    → Sixteen a b (i + 1) (set sums j (getD sums j 0 + x))
-sixteen-more a b i sums j x e h p =
+pub sixteen-more : (a b : List ℕ) (i d : ℕ) (sums : List ℕ) (j x : ℕ) → Sixteen a b i d sums → j < 16 → Adds a b i (i + 1) x
+    → Sixteen a b (i + 1) d (set sums j (getD sums j 0 + x))
+sixteen-more a b i d sums j x e h p =
     record {
       sixteen = length-set sums j (getD sums j 0 + x) ∙ e .sixteen;
-      together = rw (total-more sums j x (omega (arith, e .sixteen))) (adds-join a b 0 i (i + 1) (total sums) x (e .together) p);
+      is = omega (arith, total-more sums j x (omega (arith, e .sixteen)), e .is, p .is);
     }
+
+pub sixteen-adds : (a b : List ℕ) (from to : ℕ) (sums : List ℕ) → Sixteen a b to (metric (drop from a) (drop from b)) sums → Adds a b from to (total sums)
+sixteen-adds a b from to sums e = record { is = e .is }

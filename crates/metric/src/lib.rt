@@ -4,7 +4,7 @@ use definition::Answer;
 ghost use mathlib.Core.Path.{_≡_};
 ghost use mathlib.Core.Bool.{cond};
 ghost use Prim.Native.Nat.{ℕ, _+_, _-_, _*_, _%_, _<_, _≤_, min, max};
-ghost use lib.ListN.{length, getD};
+ghost use lib.ListN.{length, getD, drop};
 ghost use Rattle.definition.specs.Lists.{total};
 ghost use Rattle.definition.specs.Metric.{saturated, squared, metric, fromQuery, between};
 ghost use Rattle.definition.specs.Outcome.{distanceOut};
@@ -30,7 +30,7 @@ fn lower(x: u8, y: u8) -> u8
     y
 }
 
-// What the higher of two samples is measured from: the lower, or 255 if it is that itself, so that it adds nothing.
+// What the higher of two samples is measured from: the lower, or 255 where it is that itself, so that it adds nothing.
 fn ground(high: u8, low: u8) -> u8
     ensures { λ r. ⌜ r ≡ cond (saturated high) 255 low ⌝ }
 {
@@ -40,8 +40,7 @@ fn ground(high: u8, low: u8) -> u8
     low
 }
 
-// What two samples add to a distance. All but the last step is on bytes, and nothing in it is worked out by a branch, so that sixteen of them go into one
-// instruction.
+// What two samples add to a distance. All but the last step is on bytes, so that sixteen of them go into one instruction.
 fn squared(x: u8, y: u8) -> u32
     ensures { λ r. ⌜ r ≡ squared x y ⌝ }
 {
@@ -51,11 +50,24 @@ fn squared(x: u8, y: u8) -> u32
     gap as u32 * gap as u32
 }
 
-// Sixteen samples from `at` on, each added to a sum of its own: the sixteen sums stay in registers, and are added up once a distance.
+// The same of a sample that is looked at by itself. There the processor can choose between numbers of 32 bits, but between bytes only by a branch.
+fn squared_alone(x: u8, y: u8) -> u32
+    ensures { λ r. ⌜ r ≡ squared x y ⌝ }
+{
+    let high = higher(x, y) as u32;
+    let gap = high - lower(x, y) as u32;
+    if high == 255u32 {
+        return 0;
+    }
+    gap * gap
+}
+
+// Sixteen samples from `at` on, each added to a sum of its own: the sixteen sums stay in registers, and are added up once a stretch.
 fn add_sixteen(sums: &mut [u32; 16], a: &[u8], b: &[u8], at: usize)
     requires { ⌜ Stretch (now a) (now b) at (at + 16) ⌝ }
-    requires { ⌜ Sixteen (now a) (now b) at (now sums) ⌝ }
-    ensures { λ _. ⌜ Sixteen (now (a .entry)) (now (b .entry)) (at + 16) (now (sums .exit)) ⌝ }
+    requires { ⌜ (length (now sums) ≡ 16) × (total (now sums) + metric (drop at (now a)) (drop at (now b)) ≤ farthest) ⌝ }
+    ensures { λ _. ⌜ Sixteen (now (a .entry)) (now (b .entry)) (at + 16)
+        (total (now (sums .entry)) + metric (drop at (now (a .entry))) (drop at (now (b .entry)))) (now (sums .exit)) ⌝ }
 {
     let mut j = 0;
     while j < 16 {
@@ -65,23 +77,8 @@ fn add_sixteen(sums: &mut [u32; 16], a: &[u8], b: &[u8], at: usize)
     }
 }
 
-// The samples from `from` up to `to`, sixteen at a time. No step goes beyond `to` in any case; by `least` that is written so that the compiler does not see how
-// many turns there are. Where it sees it, it puts samples sixteen places apart side by side, and gathers them one by one.
-pub fn add_sixteens(sums: &mut [u32; 16], a: &[u8], b: &[u8], from: usize, to: usize)
-    requires { ⌜ Stretch (now a) (now b) from to ⌝ }
-    requires { ⌜ (to - from) % 16 ≡ 0 ⌝ }
-    requires { ⌜ Sixteen (now a) (now b) from (now sums) ⌝ }
-    ensures { λ _. ⌜ Sixteen (now (a .entry)) (now (b .entry)) to (now (sums .exit)) ⌝ }
-{
-    let mut i = from;
-    while i < to {
-        add_sixteen(sums, a, b, i);
-        i = laws::least(i + 16, to);
-    }
-}
-
 // The sixteen sums added up.
-pub fn total(sums: &[u32; 16]) -> u32
+fn total(sums: &[u32; 16]) -> u32
     requires { ⌜ (length (now sums) ≡ 16) × (total (now sums) ≤ farthest) ⌝ }
     ensures { λ r. ⌜ r ≡ total (now (sums .entry)) ⌝ }
 {
@@ -94,7 +91,23 @@ pub fn total(sums: &[u32; 16]) -> u32
     sum
 }
 
-// What the samples from `from` on add to the distance of two vectors.
+// What the samples from `from` up to `to` add to the distance of two vectors, sixteen at a time. No turn goes beyond `to` as it is; with `least` the compiler
+// does not see how many turns there are. Where it sees that, it takes samples sixteen places apart into one register, and fetches them one by one.
+pub fn stretch(a: &[u8], b: &[u8], from: usize, to: usize) -> u32
+    requires { ⌜ Stretch (now a) (now b) from to ⌝ }
+    requires { ⌜ (to - from) % 16 ≡ 0 ⌝ }
+    ensures { λ r. ⌜ Adds (now (a .entry)) (now (b .entry)) from to r ⌝ }
+{
+    let mut sums = [0u32; 16];
+    let mut i = from;
+    while i < to {
+        add_sixteen(&mut sums, a, b, i);
+        i = laws::least(i + 16, to);
+    }
+    total(&sums)
+}
+
+// What the samples from `from` on add, one by one.
 pub fn rest(a: &[u8], b: &[u8], from: usize) -> u32
     requires { ⌜ Stretch (now a) (now b) from (length (now a)) ⌝ }
     ensures { λ r. ⌜ Adds (now (a .entry)) (now (b .entry)) from (length (now (a .entry))) r ⌝ }
@@ -102,7 +115,7 @@ pub fn rest(a: &[u8], b: &[u8], from: usize) -> u32
     let mut sum: u32 = 0;
     let mut i = from;
     while i < a.len() {
-        sum += squared(a[i], b[i]);
+        sum += squared_alone(a[i], b[i]);
         i += 1;
     }
     sum
@@ -114,9 +127,7 @@ fn summed(a: &[u8], b: &[u8]) -> u32
     ensures { λ r. ⌜ Exact (metric (now (a .entry)) (now (b .entry))) r ⌝ }
 {
     let sixteens = a.len() - a.len() % 16;
-    let mut sums = [0u32; 16];
-    add_sixteens(&mut sums, a, b, 0, sixteens);
-    total(&sums) + rest(a, b, sixteens)
+    stretch(a, b, 0, sixteens) + rest(a, b, sixteens)
 }
 
 // The distance of two vectors, or the number of the refusal.

@@ -1,10 +1,13 @@
--- `metric::add_sixteen` meets its contract. The loop's invariant: the sixteen sums together are what the samples passed so far add. Assumes nothing.
-use mathlib.Core.Path.{_≡_, subst}
+-- `metric::add_sixteen` meets its contract. The loop's invariant: the sixteen sums with what is still to come stay the same. Assumes nothing.
+use mathlib.Core.Path.{_≡_, refl, subst}
+use mathlib.Core.List.{List}
 use Prim.Native.Nat.{ℕ, _+_, _-_, _≤_}
 use native.Mathlib.Nat.{add-zero, add-assoc}
 use native.Mathlib.Omega.{arith}
-use lib.ListN.{getD, set}
-use Rattle.metric.specs.Stretches.{Sixteen, adds-one, adds-small, total-more, sum-total, sixteen-more}
+use lib.ListN.{getD, set, drop}
+use Rattle.definition.specs.Lists.{total}
+use Rattle.definition.specs.Metric.{metric}
+use Rattle.metric.specs.Stretches.{Sixteen, adds-one, total-more, sum-total, sixteen-more}
 use borrow.Author.Needs.{needs}
 use Rattle.metric.proofs.add_sixteen.Statement.{statement}
 use Rattle.metric.proofs.add_sixteen.Tie as tie
@@ -12,15 +15,19 @@ use Rattle.metric.proofs.add_sixteen.Reads as reads
 use Rattle.metric.proofs.add_sixteen.Lts as lts
 use Rattle.metric.proofs.squared.Reads as squared-reads
 
+-- the sums with what is still to come
+abbrev all : List ℕ → List ℕ → ℕ → List ℕ → ℕ
+all a b at sums = total sums + metric (drop at a) (drop at b)
+
 abbrev Inv-loop : tie.InvT-loop
-Inv-loop sums₀ a b at j₀ sums j = (j ≤ 16) × Sixteen a b (at + j) sums
+Inv-loop sums₀ a b at j₀ sums j = (j ≤ 16) × Sixteen a b (at + j) (all a b at sums₀) sums
 
 abbrev μ-loop : tie.MeasureT-loop
 μ-loop sums₀ a b at j₀ sums j = 16 - j
 
 -- after a turn's square is added
 turn : (c : tie.After-squared Inv-loop μ-loop) → let l = c .before .before .before .before .before in let s = l .before .before .before in
-    Sixteen (s .args .a .now) (s .args .b .now) (s .args .at + (l .loop .j + 1))
+    Sixteen (s .args .a .now) (s .args .b .now) (s .args .at + (l .loop .j + 1)) (all (s .args .a .now) (s .args .b .now) (s .args .at) (s .args .sums .now))
     (set (l .loop .sums) (l .loop .j) (getD (l .loop .sums) (l .loop .j) 0 + c .squared .result))
 turn c =
     let l = c .before .before .before .before .before in
@@ -29,10 +36,10 @@ turn c =
     let p = s .pre .0 in
     let one = adds-one (s .args .a .now) (s .args .b .now) k (p .alike) (omega (arith, p .inside)) in
     rw (← add-assoc (s .args .at) (l .loop .j) 1)
-    (sixteen-more _ _ k (l .loop .sums) (l .loop .j) _ (l .loop .inv .1) (omega arith) (rw (c .squared .ensures) one))
+    (sixteen-more _ _ k _ (l .loop .sums) (l .loop .j) _ (l .loop .inv .1) (omega arith) (rw (c .squared .ensures) one))
 
 loop-holds : tie.Need-loop-holds Inv-loop μ-loop
-loop-holds c = let s = c .before .before in (search needs, rw (add-zero (s .args .at)) (s .pre .1))
+loop-holds c = let s = c .before .before in (search needs, rw (add-zero (s .args .at)) (record { sixteen = s .pre .1 .0; is = refl }))
 
 add-k : tie.Need-add-k Inv-loop μ-loop
 add-k c = search needs
@@ -55,12 +62,10 @@ squared-requires c κs = search needs
 add-sums : tie.Need-add-sums Inv-loop μ-loop
 add-sums c =
     let l = c .before .before .before .before .before in
-    let known = l .before .before .shared-slice-known in
-    let known2 = l .before .shared-slice-known2 in
     let t = turn c in
     let more = total-more (l .loop .sums) (l .loop .j) (c .squared .result) (omega (arith, l .loop .inv .1 .sixteen)) in
     let least = sum-total (l .loop .sums) (l .loop .j) in
-    omega (arith, adds-small _ _ _ _ _ (λ k. known .given k .fits) (λ k. known2 .given k .fits) (l .before .before .before .pre .0 .few) (t .together))
+    omega (arith, t .is, l .before .before .before .pre .1 .1)
 
 mul-sums-2 : tie.Need-mul-sums-2 Inv-loop μ-loop
 mul-sums-2 c = search needs
@@ -82,7 +87,8 @@ returns c =
     let l = c .before in
     let s = l .before .before .before in
     let at : s .args .at + l .loop .j ≡ s .args .at + 16 = omega (arith, l .loop .inv .0, c .loop-test .left) in
-    subst (λ (k : ℕ). Sixteen (s .args .a .now) (s .args .b .now) k (l .loop .sums)) at (l .loop .inv .1)
+    let d = all (s .args .a .now) (s .args .b .now) (s .args .at) (s .args .sums .now) in
+    subst (λ (k : ℕ). Sixteen (s .args .a .now) (s .args .b .now) k d (l .loop .sums)) at (l .loop .inv .1)
 
 pub add-sixteen-spec : {M : Type 1} → statement M
 add-sixteen-spec =

@@ -9,7 +9,6 @@ use Rattle.metric.proofs.rest.Statement.{statement}
 use Rattle.metric.proofs.rest.Tie as tie
 use Rattle.metric.proofs.rest.Reads as reads
 use Rattle.metric.proofs.rest.Lts as lts
-use Rattle.metric.proofs.squared.Reads as squared-reads
 
 abbrev Inv-loop : tie.InvT-loop
 Inv-loop a b from sum₀ i₀ sum i = (i ≤ length a) × Adds a b from i sum
@@ -18,27 +17,27 @@ abbrev μ-loop : tie.MeasureT-loop
 μ-loop a b from sum₀ i₀ sum i = length a - i
 
 -- after a turn's square is added
-turn : (c : tie.After-squared Inv-loop μ-loop) → let l = c .before .before .before .before in let s = l .before .before .before in
-    Adds (s .args .a .now) (s .args .b .now) (s .args .from) (l .loop .i + 1) (l .loop .sum + c .squared .result)
+turn : (c : tie.After-squared-alone Inv-loop μ-loop) → let l = c .before .before .before .before in let s = l .before .before .before in
+    Adds (s .args .a .now) (s .args .b .now) (s .args .from) (l .loop .i + 1) (l .loop .sum + c .squared-alone .result)
 turn c =
     let l = c .before .before .before .before in
     let s = l .before .before .before in
     let i = l .loop .i in
     let one = adds-one (s .args .a .now) (s .args .b .now) i (s .pre .alike) (omega arith) in
-    let more = subst (λ (r : ℕ). Adds (s .args .a .now) (s .args .b .now) i (i + 1) r) (sym (c .squared .ensures)) one in
-    adds-join _ _ (s .args .from) i (i + 1) (l .loop .sum) (c .squared .result) (l .loop .inv .1) more
+    let more = subst (λ (r : ℕ). Adds (s .args .a .now) (s .args .b .now) i (i + 1) r) (sym (c .squared-alone .ensures)) one in
+    adds-join _ _ (s .args .from) i (i + 1) (l .loop .sum) (c .squared-alone .result) (l .loop .inv .1) more
 
 loop-holds : tie.Need-loop-holds Inv-loop μ-loop
 loop-holds c = (search needs, adds-none _ _ _)
 
-shared-slice-read-squared : tie.Need-shared-slice-read-squared Inv-loop μ-loop
-shared-slice-read-squared c = search needs
+shared-slice-read-squared-alone : tie.Need-shared-slice-read-squared-alone Inv-loop μ-loop
+shared-slice-read-squared-alone c = search needs
 
-shared-slice-read-squared-2 : tie.Need-shared-slice-read-squared-2 Inv-loop μ-loop
-shared-slice-read-squared-2 c = search needs
+shared-slice-read-squared-alone-2 : tie.Need-shared-slice-read-squared-alone-2 Inv-loop μ-loop
+shared-slice-read-squared-alone-2 c = search needs
 
-squared-requires : tie.Need-squared-requires Inv-loop μ-loop
-squared-requires c κs = tt
+squared-alone-requires : tie.Need-squared-alone-requires Inv-loop μ-loop
+squared-alone-requires c κs = tt
 
 add-sum : tie.Need-add-sum Inv-loop μ-loop
 add-sum c =
@@ -70,9 +69,9 @@ rest-spec =
     Inv-loop
     μ-loop
     loop-holds
-    shared-slice-read-squared
-    shared-slice-read-squared-2
-    squared-requires
+    shared-slice-read-squared-alone
+    shared-slice-read-squared-alone-2
+    squared-alone-requires
     add-sum
     add-i
     loop-less

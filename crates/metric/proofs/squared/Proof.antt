@@ -1,12 +1,12 @@
 -- `metric::squared` meets its contract: the ground is not above the higher sample, and the square is the definition's. Assumes nothing.
-use mathlib.Core.Path.{_≡_}
+use mathlib.Core.Path.{_≡_, sym}
 use Prim.Native.Nat.{_-_, _*_}
 use native.Mathlib.Nat.{lt-of-le-of-lt}
 use borrow.Author.Needs.{needs}
 use lib.Dec.{lit<}
 use Rattle.definition.specs.Metric.{squared}
 use Rattle.theory.specs.Metric.{squared-most}
-use Rattle.metric.proofs.Gap.{ground-most, square-is}
+use Rattle.metric.proofs.Gap.{ground-most, ground-adds}
 use Rattle.metric.proofs.squared.Statement.{statement}
 use Rattle.metric.proofs.squared.Tie as tie
 
@@ -15,7 +15,8 @@ square : (c : tie.After-ground) → let s = c .before .before .before in let gap
     gap * gap ≡ squared (s .args .x) (s .args .y)
 square c =
     let s = c .before .before .before in
-    rw (c .ground .ensures, c .before .lower .ensures, c .before .before .higher .ensures) (square-is (s .args .x) (s .args .y) (s .fits .x .fits) (s .fits .y .fits))
+    rw (c .ground .ensures, c .before .lower .ensures, c .before .before .higher .ensures)
+    (sym (ground-adds (s .args .x) (s .args .y) (s .fits .x .fits) (s .fits .y .fits)))
 
 higher-requires : tie.Need-higher-requires
 higher-requires c κs = search needs
@@ -29,7 +30,8 @@ ground-requires c κs = search needs
 sub-gap : tie.Need-sub-gap
 sub-gap c =
     let s = c .before .before .before in
-    rw (c .ground .ensures, c .before .lower .ensures, c .before .before .higher .ensures) (ground-most (s .args .x) (s .args .y))
+    rw (c .ground .ensures, c .before .lower .ensures, c .before .before .higher .ensures)
+    (ground-most (s .args .x) (s .args .y) (s .fits .x .fits) (s .fits .y .fits))
 
 cast-result : tie.Need-cast-result
 cast-result c = search needs

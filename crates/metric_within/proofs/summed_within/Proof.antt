@@ -1,23 +1,27 @@
--- `summed_within`: the sums after the first quarter, or after all sixteens and with the rest, are what the samples so far add.
+-- `summed_within`: what the first quarter adds, and what it adds with the other sixteens and the rest.
 use Prim.Native.Nat.{_+_, _-_, _*_, _/_, _%_}
 use native.Mathlib.Omega.{arith}
 use borrow.Author.Needs.{needs}
 use lib.ListN.{length}
-use Rattle.metric.specs.Stretches.{Adds, sixteen-none, adds-join}
+use Rattle.metric.specs.Stretches.{Adds, adds-join}
 use Rattle.metric_within.proofs.Reaching.{front-small, front-within, all-within}
 use Rattle.metric_within.proofs.summed_within.Statement.{statement}
 use Rattle.metric_within.proofs.summed_within.Tie as tie
 
--- the sixteen sums and the rest
-all : (c : tie.After-rest) → let known = c .before .before .before .before .before .before .before .before .before .before in let s = known .before .before in
-    Adds (s .args .a .now) (s .args .b .now) 0 (length (s .args .a .now)) (c .before .total2 .result + c .rest .result)
+-- the sixteens
+front : (c : tie.After-stretch2) → let s = c .before .before .before .before .before in let n = length (s .args .a .now) in
+    Adds (s .args .a .now) (s .args .b .now) 0 (n - n % 16) (c .before .before .stretch .result + c .stretch2 .result)
+front c =
+    let n = length (c .before .before .before .before .before .args .a .now) in
+    adds-join _ _ 0 ((n + 48) / 64 * 16) (n - n % 16) _ _ (c .before .before .stretch .ensures) (c .stretch2 .ensures)
+
+-- and the rest
+all : (c : tie.After-rest) → let s = c .before .before .before .before .before .before in
+    Adds (s .args .a .now) (s .args .b .now) 0 (length (s .args .a .now))
+    (c .before .before .before .stretch .result + c .before .stretch2 .result + c .rest .result)
 all c =
-    let known = c .before .before .before .before .before .before .before .before .before .before in
-    let s = known .before .before in
-    let n = length (s .args .a .now) in
-    let sixteens : Adds (s .args .a .now) (s .args .b .now) 0 (n - n % 16) (c .before .total2 .result) =
-    rw (c .before .total2 .ensures) (c .before .before .before .add-sixteens2 .ensures .together) in
-    adds-join _ _ _ (n - n % 16) _ _ _ sixteens (c .rest .ensures)
+    let n = length (c .before .before .before .before .before .before .args .a .now) in
+    adds-join _ _ 0 (n - n % 16) n _ _ (front (c .before)) (c .rest .ensures)
 
 add-first : tie.Need-add-first
 add-first c = search needs
@@ -28,46 +32,34 @@ mul-first c = search needs
 sub-sixteens : tie.Need-sub-sixteens
 sub-sixteens c = search needs
 
-add-sixteens-requires : tie.Need-add-sixteens-requires
-add-sixteens-requires c κs = (search needs, (omega arith, sixteen-none _ _))
-
-total-requires : tie.Need-total-requires
-total-requires c κs =
-    let e = c .before .add-sixteens .ensures in
-    let known = c .before .before .before in (
-      e .sixteen,
-      front-small _ _ (λ k. known .before .shared-slice-known .given k .fits) (λ k. known .shared-slice-known2 .given k .fits)
-          (known .before .before .pre .1) _ _ (e .together),
-    )
+stretch-requires : tie.Need-stretch-requires
+stretch-requires c κs = (search needs, omega arith)
 
 returns : tie.Need-returns
 returns c =
-    let known = c .before .before .before .before .before in
+    let known = c .before .before in
     let s = known .before .before in
-    let first = (length (s .args .a .now) + 48) / 64 * 16 in
-    let near : Adds (s .args .a .now) (s .args .b .now) 0 first (c .before .total .result) =
-    rw (c .before .total .ensures) (c .before .before .before .add-sixteens .ensures .together) in
-    front-within _ _ (λ k. known .before .shared-slice-known .given k .fits) (λ k. known .shared-slice-known2 .given k .fits) (s .pre .1) first _ _ near
-    (c .if1 .taken)
+    front-within _ _ (λ k. known .before .shared-slice-known .given k .fits) (λ k. known .shared-slice-known2 .given k .fits) (s .pre .1)
+    ((length (s .args .a .now) + 48) / 64 * 16) _ _ (c .before .stretch .ensures) (c .if1 .taken)
 
-add-sixteens-requires-2 : tie.Need-add-sixteens-requires-2
-add-sixteens-requires-2 c κs = search needs
+stretch-requires-2 : tie.Need-stretch-requires-2
+stretch-requires-2 c κs = (search needs, omega arith)
 
-total-requires-2 : tie.Need-total-requires-2
-total-requires-2 c κs =
-    let e = c .before .add-sixteens2 .ensures in
-    let known = c .before .before .before .before .before .before .before .before in (
-      e .sixteen,
+add-result : tie.Need-add-result
+add-result c =
+    let known = c .before .before .before in
+    omega (
+      arith,
       front-small _ _ (λ k. known .before .shared-slice-known .given k .fits) (λ k. known .shared-slice-known2 .given k .fits)
-          (known .before .before .pre .1) _ _ (e .together),
+          (known .before .before .pre .1) _ _ (front c),
     )
 
 rest-requires : tie.Need-rest-requires
 rest-requires c κs = search needs
 
-add-result : tie.Need-add-result
-add-result c =
-    let known = c .before .before .before .before .before .before .before .before .before .before in
+add-result-2 : tie.Need-add-result-2
+add-result-2 c =
+    let known = c .before .before .before .before in
     omega (
       arith,
       front-small _ _ (λ k. known .before .shared-slice-known .given k .fits) (λ k. known .shared-slice-known2 .given k .fits)
@@ -76,7 +68,7 @@ add-result c =
 
 returns-2 : tie.Need-returns-2
 returns-2 c =
-    let known = c .before .before .before .before .before .before .before .before .before .before in
+    let known = c .before .before .before .before in
     all-within _ _ (λ k. known .before .shared-slice-known .given k .fits) (λ k. known .shared-slice-known2 .given k .fits)
     (known .before .before .pre .1) _ _ (all c)
 
@@ -87,11 +79,10 @@ summed-within-spec =
     add-first
     mul-first
     sub-sixteens
-    add-sixteens-requires
-    total-requires
+    stretch-requires
     returns
-    add-sixteens-requires-2
-    total-requires-2
-    rest-requires
+    stretch-requires-2
     add-result
+    rest-requires
+    add-result-2
     returns-2)
