@@ -33,20 +33,21 @@ impl Room {
 
 pub fn distance(r: &mut Rng, _: usize) {
     let len = r.pick(&[1, 2, 7, 8, 9, 16, 63, 64, 65, 255, 256]);
-    let extremes = r.below(2) == 0;
-    let mut bytes = || -> Vec<u8> { (0..len).map(|_| if extremes { r.pick(&[0, 255]) } else { r.next() as u8 }).collect() };
-    let (a, b) = (bytes(), bytes());
+    let (a, b) = pair(r, len);
     note(format!("length {len}"));
+    note_silent(&a, &b);
     let got = reads(&[&a, &b], &[], || ours::distance(&a, &b));
     must(ours::same(got, Answer { distance: probe::distance(&a, &b), ..DONE }), "distance");
 }
 
 pub fn medoid(r: &mut Rng, n: usize) {
     let mut d = data(r, n);
-    if r.below(4) == 0 {
+    let near = r.below(4) == 0;
+    if near {
         (d.dim, d.vectors) = near_scores(r, n);
-        note("scores a rounding apart");
     }
+    let d = d.clipped(r);
+    note_if(near && !d.saturated, "scores a rounding apart");
     let pivots: Vec<u32> = (0..1 + r.below(8)).map(|_| r.below(n) as u32).collect();
     note_if(n == 1, "n 1");
     note_if(d.dim == 1, "dim 1");
@@ -98,6 +99,7 @@ fn walk_of_000(d: &Data, table: &[u32], query: &[u8], beam: usize) -> Walk {
     note_if(walk.expanded == 0, "nothing expanded");
     note_if(walk.measured > beam.max(1), "more measured than the beam holds");
     note_if(n > 1 && walk.measured == n, "every entry measured");
+    note_silent(query, &d.vectors);
     walk
 }
 
@@ -141,7 +143,7 @@ fn search_on(r: &mut Rng, d: &Data, table: &[u32], call: Call) {
 }
 
 fn any_search(r: &mut Rng, n: usize, call: Call) {
-    let d = data(r, n);
+    let d = data(r, n).clipped(r);
     let table = searched(r, n, d.params.degree);
     note_limits(&d);
     search_on(r, &d, &table, call);
@@ -159,7 +161,7 @@ pub fn records(r: &mut Rng, n: usize) {
 
 /// A lookup in any words at all, or in words that the search rule admits: then a search has the same answers, since both have 000's.
 pub fn lookup(r: &mut Rng, n: usize) {
-    let d = data(r, n);
+    let d = data(r, n).clipped(r);
     let degree = d.params.degree;
     let table = if r.below(4) == 0 { searched(r, n, degree) } else { strayed(r, n, degree) };
     note_limits(&d);
@@ -181,12 +183,13 @@ fn note_asked(n: usize, k: usize) {
 
 /// The k nearest of all entries, beside all distances sorted and cut.
 pub fn exhaustive(r: &mut Rng, n: usize) {
-    let d = data_for_all(r, n);
+    let d = data_for_all(r, n).clipped(r);
     let n = d.n;
     let (k, query) = (nearest_asked(r, n), query(r, &d));
     let all = recall::nearest(d.dim, &d.vectors, n, &query);
     note_limits(&d);
     note_asked(n, k);
+    note_silent(&query, &d.vectors);
     note_if(all.windows(2).take(k).any(|w| w[0].1 == w[1].1), "equal distances among the nearest");
     note_if(k < n && all[k - 1].1 == all[k].1, "equal distances at the cut");
     exhaustive_beside(r, &d, k, &query);
@@ -215,7 +218,7 @@ fn led(r: &mut Rng, d: &Data) -> Vec<u32> {
 
 /// How many of the nearest a search of each query brings, beside 000's own answers and all distances sorted and cut.
 pub fn report(r: &mut Rng, n: usize) {
-    let d = data_for_all(r, n);
+    let d = data_for_all(r, n).clipped(r);
     let (n, dim, degree, start) = (d.n, d.dim, d.params.degree, d.start);
     let table = led(r, &d);
     let k = nearest_asked(r, n);
@@ -319,7 +322,7 @@ pub fn ties(r: &mut Rng, n: usize) {
 }
 
 pub fn batch(r: &mut Rng, n: usize) {
-    let d = data(r, n);
+    let d = data(r, n).clipped(r);
     let count = match r.below(4) {
         0 => n.min(256),
         1 if n < 200 => 0,
@@ -365,7 +368,7 @@ pub fn open(r: &mut Rng, n: usize) {
 }
 
 pub fn close(r: &mut Rng, n: usize) {
-    let d = data(r, n);
+    let d = data(r, n).clipped(r);
     let (degree, s) = (d.params.degree, slack(d.params.degree));
     let rows = rows(r, n, s.min(n - 1));
     note_limits(&d);
@@ -385,7 +388,7 @@ pub fn close(r: &mut Rng, n: usize) {
 }
 
 pub fn build(r: &mut Rng, n: usize) {
-    let d = data(r, n);
+    let d = data(r, n).clipped(r);
     build_beside(r, &d);
 }
 
@@ -418,7 +421,7 @@ fn build_beside(r: &mut Rng, d: &Data) {
 /// a large case: the marks of one run are then those of the next.
 pub fn walks(r: &mut Rng, n: usize) {
     let n = if n > 200 { 257 + r.below(700) } else { 17 + r.below(30) };
-    let mut d = data(r, n);
+    let mut d = data(r, n).clipped(r);
     d.params.extra = 16;
     d.params.beam = r.pick(&[0, 1, 2, 8, 24]);
     note_if(n > 512, "a build of three runs or more");

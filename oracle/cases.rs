@@ -1,6 +1,7 @@
-//! Random inputs around document 01's boundaries: many equal vectors and distances, rows of every length, limits touched.
+//! Random inputs around document 01's boundaries: many equal vectors and distances, samples at 255, rows of every length, limits touched.
 use crate::ours::{Params, PAD};
 use crate::tally::{note, note_if};
+use diskann::probe;
 
 pub struct Rng(pub u64);
 
@@ -53,6 +54,66 @@ pub struct Data {
     pub vectors: Vec<u8>,
     pub params: Params,
     pub start: u32,
+    /// Samples were set to 255, so a drawn query may have some too.
+    pub saturated: bool,
+}
+
+impl Data {
+    /// In a third of the cases with samples at 255; what draws vectors of its own does so before. Refused calls work out no distance and do without.
+    pub fn clipped(mut self, r: &mut Rng) -> Data {
+        self.saturated = clip(r, &mut self.vectors);
+        note_silent(&self.vectors[..self.dim], &self.vectors);
+        self
+    }
+}
+
+/// One sample in so many at 255, drawn sample by sample, and one at least.
+pub fn saturate(r: &mut Rng, samples: &mut [u8], one_in: usize) {
+    samples[r.below(samples.len())] = 255;
+    samples.iter_mut().filter(|_| r.below(one_in) == 0).for_each(|sample| *sample = 255);
+}
+
+/// Samples at 255 say nothing (5/13). In a third of the cases a tenth of them, half or all are, each as often; whether this is such a case.
+pub fn clip(r: &mut Rng, samples: &mut [u8]) -> bool {
+    let (one_in, what) = match r.below(9) {
+        0 => (10, "a tenth of the samples at 255"),
+        1 => (2, "half of the samples at 255"),
+        2 => (1, "every sample at 255"),
+        _ => return false,
+    };
+    saturate(r, samples, one_in);
+    note(what);
+    true
+}
+
+/// A drawn query of such a case: half of them have samples at 255 too, of a share of their own.
+fn clip_query(r: &mut Rng, query: &mut [u8]) {
+    if r.below(2) == 0 {
+        let one_in = r.pick(&[10, 2, 1]);
+        saturate(r, query, one_in);
+        note("a drawn query with samples at 255");
+    }
+}
+
+/// Whether an entry is another vector than this one and yet at distance 0 of it: they differ only where one of them is 255.
+pub fn note_silent(vector: &[u8], entries: &[u8]) {
+    let silent = |entry: &[u8]| entry != vector && probe::distance(vector, entry) == 0.0;
+    note_if(entries.chunks(vector.len()).any(silent), "unequal vectors at distance 0");
+}
+
+/// Two vectors of a length, half of them as far apart as samples below 255 allow. One is clipped as entries are, the other as their query.
+pub fn pair(r: &mut Rng, len: usize) -> (Vec<u8>, Vec<u8>) {
+    let extremes = r.below(2) == 0;
+    let mut bytes = || -> Vec<u8> { (0..len).map(|_| if extremes { r.pick(&[0, 254]) } else { r.next() as u8 }).collect() };
+    let (mut entry, mut query) = (bytes(), bytes());
+    if clip(r, &mut entry) {
+        clip_query(r, &mut query);
+    }
+    if r.below(2) == 0 {
+        (entry, query)
+    } else {
+        (query, entry)
+    }
 }
 
 /// How many entries: 1 to 40, or 250 to 1,500 with many about 750, where pools are cut.
@@ -88,7 +149,8 @@ fn scattered(r: &mut Rng, n: usize) -> (usize, Vec<u8>) {
         _ => r.pick(&[16, 33, 128, 255, 256]),
     };
     let values: Vec<u8> = match r.below(4) {
-        0 => vec![0, 255],
+        // the most that two samples can add: 255 would add nothing
+        0 => vec![0, 254],
         1 => vec![100, 101, 102, 103, 110],
         _ => (0..=255).collect(),
     };
@@ -111,7 +173,7 @@ fn heap_and_far(r: &mut Rng, n: usize) -> (usize, Vec<u8>) {
     }
     for _ in 0..1 + r.below(6) {
         let far = r.below(n) * dim;
-        vectors[far + 2 + r.below(dim - 2)] = 255;
+        vectors[far + 2 + r.below(dim - 2)] = 254;
         if r.below(2) == 0 {
             vectors[far..far + 2].fill(20);
         }
@@ -119,16 +181,16 @@ fn heap_and_far(r: &mut Rng, n: usize) -> (usize, Vec<u8>) {
     (dim, vectors)
 }
 
-/// Two heaps as far apart as bytes allow, two samples of each entry one off. Sums of such distances pass 2^24 and differ by less than a
+/// Two heaps as far apart as samples below 255 allow, two samples of each entry one off. Sums of such distances pass 2^24 and differ by less than a
 /// rounding, so that the order in which they are added decides which is least.
 pub fn near_scores(r: &mut Rng, n: usize) -> (usize, Vec<u8>) {
     let dim = 256;
     let mut vectors = Vec::with_capacity(n * dim);
     for i in 0..n {
         let high = r.below(2) == 0;
-        vectors.resize((i + 1) * dim, if high { 255 } else { 0 });
+        vectors.resize((i + 1) * dim, if high { 254 } else { 0 });
         for _ in 0..2 {
-            vectors[i * dim + r.below(dim)] = if high { 254 } else { 1 };
+            vectors[i * dim + r.below(dim)] = if high { 253 } else { 1 };
         }
     }
     (dim, vectors)
@@ -159,7 +221,7 @@ pub fn data(r: &mut Rng, n: usize) -> Data {
     let alpha = if far && r.below(2) == 0 { 1.2 } else { alpha(r) };
     let params = Params { degree, beam, alpha, extra: extra.min(n - 1) };
     let start = r.below(n) as u32;
-    Data { n, dim, vectors, params, start }
+    Data { n, dim, vectors, params, start, saturated: false }
 }
 
 /// As `data`, for the calls that look at every entry: up to 3,000 in a large case and in some small ones more than k may be; in a third of the
@@ -179,8 +241,8 @@ pub fn data_for_all(r: &mut Rng, n: usize) -> Data {
     d
 }
 
-/// Data full of equal distances: samples of one to three values, and in half of the cases few different vectors, down to one. In a few small cases there
-/// are more entries than any beam holds.
+/// Data full of equal distances: samples of one to three values, and in half of the cases few different vectors, down to one; in a third of the cases
+/// samples at 255 besides, so that copies differ and are as far as before or nearer. In a few small cases there are more entries than any beam holds.
 pub fn tied(r: &mut Rng, n: usize) -> Data {
     let n = match r.below(60) {
         0 if n < 200 => 257 + r.below(60),
@@ -195,7 +257,7 @@ pub fn tied(r: &mut Rng, n: usize) -> Data {
     };
     // an even step, so that halfway between two values there is a sample as far from the one as from the other
     let (step, many) = (2 + 2 * r.below(30), r.pick(&[1, 2, 2, 2, 3, 3, 3, 3]));
-    let first = r.below(256 - 2 * step);
+    let first = r.below(255 - 2 * step);
     let mut vectors: Vec<u8> = (0..n * dim).map(|_| (first + step * r.below(many)) as u8).collect();
     let different = match r.below(8) {
         0 => 1,
@@ -207,25 +269,34 @@ pub fn tied(r: &mut Rng, n: usize) -> Data {
         vectors.copy_within(from..from + dim, i * dim);
     }
     note(["one value of samples", "two values of samples", "three values of samples"][many - 1]);
-    note_if(n > 1 && vectors[dim..] == vectors[..(n - 1) * dim], "all vectors equal");
     let degree = match r.below(4) {
         0 => 1 + r.below(2),
         1 if n < 200 => 64,
         _ => 2 + r.below(8),
     };
     let params = Params { degree, beam: 0, alpha: 1.0, extra: 0 };
-    Data { n, dim, vectors, params, start: r.below(n) as u32 }
+    let start = r.below(n) as u32;
+    let d = Data { n, dim, vectors, params, start, saturated: false }.clipped(r);
+    note_if(n > 1 && d.vectors[dim..] == d.vectors[..(n - 1) * dim], "all vectors equal");
+    d
 }
 
-/// An entry; halfway between two, sample by sample; or any bytes.
+/// An entry; halfway between two, sample by sample, and at 255 where one of them is, so that it is as far from the one as from the other; or any bytes.
 pub fn tied_query(r: &mut Rng, d: &Data) -> Vec<u8> {
     let (kind, a, b) = (r.below(8), r.below(d.n) * d.dim, r.below(d.n) * d.dim);
-    let halfway = |i| ((usize::from(d.vectors[a + i]) + usize::from(d.vectors[b + i])) / 2) as u8;
-    let query: Vec<u8> = match kind {
+    let halfway = |i| match (d.vectors[a + i], d.vectors[b + i]) {
+        (255, _) | (_, 255) => 255,
+        (x, y) => ((usize::from(x) + usize::from(y)) / 2) as u8,
+    };
+    let mut query: Vec<u8> = match kind {
         0..=2 => d.vectors[a..a + d.dim].to_vec(),
         3..=6 => (0..d.dim).map(halfway).collect(),
         _ => (0..d.dim).map(|_| r.next() as u8).collect(),
     };
+    // samples at 255 add nothing to either distance, so what lies halfway still does
+    if d.saturated && kind > 2 {
+        clip_query(r, &mut query);
+    }
     let is_entry = d.vectors.chunks(d.dim).any(|v| v == query);
     note(if is_entry { "the query is an entry" } else { "the query is no entry" });
     query
@@ -332,11 +403,15 @@ pub fn seeds(r: &mut Rng, d: &Data, count: usize) -> Vec<u32> {
     (0..count).flat_map(|_| r.distinct(d.params.extra, d.n, &[d.start])).collect()
 }
 
+/// An entry, or any bytes.
 pub fn query(r: &mut Rng, d: &Data) -> Vec<u8> {
     if r.below(3) == 0 {
         let i = r.below(d.n);
-        d.vectors[i * d.dim..(i + 1) * d.dim].to_vec()
-    } else {
-        (0..d.dim).map(|_| r.next() as u8).collect()
+        return d.vectors[i * d.dim..(i + 1) * d.dim].to_vec();
     }
+    let mut query: Vec<u8> = (0..d.dim).map(|_| r.next() as u8).collect();
+    if d.saturated {
+        clip_query(r, &mut query);
+    }
+    query
 }

@@ -3,7 +3,7 @@ use super::*;
 use std::cell::{Cell, RefCell};
 use std::collections::{BTreeSet, HashMap};
 
-/// Document 01's metric: the sum of squared byte differences, as f32.
+/// Document 01's metric with the rule of 5/13: the sum of squared byte differences, as f32, where a sample of 255 in either vector adds nothing.
 #[derive(Clone, Copy)]
 pub struct Bytes;
 
@@ -11,6 +11,9 @@ impl Distance<u8> for Bytes {
     #[inline]
     fn eval(&self, a: &[u8], b: &[u8]) -> f32 {
         let square = |(&x, &y): (&u8, &u8)| {
+            if x == 255 || y == 255 {
+                return 0;
+            }
             let d = x as i32 - y as i32;
             (d * d) as u32
         };

@@ -138,6 +138,7 @@ fn data_of(r: &mut Rng, n: usize, most: usize) -> (Data, usize) {
         if n * d.dim > most || n * slack(d.params.degree) > most {
             continue;
         }
+        d = d.clipped(r);
         let alpha = r.below(9);
         d.params.alpha = ALPHAS[alpha];
         return (d, alpha);
@@ -170,9 +171,7 @@ fn built(d: &Data, order: &[u32], seeds: &[u32], rows: Vec<Vec<u32>>) -> (Vec<Ve
 
 fn distance(r: &mut Rng) -> (Case, Left) {
     let len = r.pick(&[1, 2, 7, 8, 9, 16, 64, 255, 256]);
-    let extremes = r.below(2) == 0;
-    let mut bytes = || -> Vec<u8> { (0..len).map(|_| if extremes { r.pick(&[0, 255]) } else { r.next() as u8 }).collect() };
-    let (vectors, query) = (bytes(), bytes());
+    let (vectors, query) = pair(r, len);
     let distance = probe::distance(&vectors, &query);
     (Case { kind: DISTANCE, vectors, query, ..Case::default() }, Left { distance, ..Left::default() })
 }
@@ -192,12 +191,7 @@ fn search(r: &mut Rng, n: usize, most: usize) -> (Case, Left) {
         1 => 256,
         _ => 1 + r.below(40),
     };
-    let query: Vec<u8> = if r.below(3) == 0 {
-        let i = r.below(n);
-        d.vectors[i * d.dim..(i + 1) * d.dim].to_vec()
-    } else {
-        (0..d.dim).map(|_| r.next() as u8).collect()
-    };
+    let query = query(r, &d);
     let walk = probe::walk(probe::Search {
         dim: d.dim,
         vectors: &d.vectors,
@@ -237,11 +231,15 @@ fn build(r: &mut Rng, n: usize, most: usize) -> (Case, Left) {
     build_on(r, &d, alpha)
 }
 
-/// Two runs of the order; few values, so that some rows are named by many and are pruned in the merge.
-fn large_build(r: &mut Rng, n: usize) -> (Case, Left) {
+/// Two runs of the order; few values, so that some rows are named by many and are pruned in the merge. One sample in so many is at 255, or none: were
+/// all of them, a pruned row would have one id, and nothing would show that it was pruned.
+fn large_build(r: &mut Rng, n: usize, one_in: Option<usize>) -> (Case, Left) {
     let mut d = data(r, n);
     d.dim = 1 + r.below(3);
     d.vectors = (0..n * d.dim).map(|_| if r.below(4) == 0 { r.next() as u8 } else { r.pick(&[10, 11, 12, 200]) }).collect();
+    if let Some(one_in) = one_in {
+        saturate(r, &mut d.vectors, one_in);
+    }
     let alpha = r.pick(&[3, 4, 4, 6]);
     d.params = Params { degree: 4 + r.below(4), beam: 4 + r.below(20), alpha: ALPHAS[alpha], extra: r.below(2) };
     let (c, l) = build_on(r, &d, alpha);
@@ -413,7 +411,8 @@ const KINDS: [Kind; 7] = [|r, _, _| distance(r), medoid, search, build, batch, c
 
 fn main() {
     let dir = std::env::args().nth(1).expect("replay FOLDER");
-    let mut r = Rng(2_026);
+    // with this seed every call that works out distances has cases of each share of samples at 255
+    let mut r = Rng(2_330);
     let mut all: Vec<(Case, Left)> = Vec::new();
     for (kind, many) in [(DISTANCE, 20), (MEDOID, 30), (SEARCH, 40), (BUILD, 60), (BATCH, 40), (CLOSE, 20), (OPEN, 10)] {
         for i in 0..many {
@@ -421,8 +420,8 @@ fn main() {
             all.push(KINDS[kind](&mut r, n, if i % 10 == 0 { 900 } else { 200 }));
         }
     }
-    for n in [260, 300, 340, 380, 420, 512] {
-        all.push(large_build(&mut r, n));
+    for (n, one_in) in [(260, None), (300, Some(10)), (340, None), (380, Some(2)), (420, None), (512, Some(10))] {
+        all.push(large_build(&mut r, n, one_in));
     }
     // every refusal of every call twice, and then pairs of faults: the lower number is returned
     for kind in DISTANCE..=OPEN {
@@ -440,8 +439,10 @@ fn main() {
     let stdout: String = all.iter().map(|(c, l)| line(c, l)).collect();
     let done = all.iter().filter(|(_, l)| l.number == 0).count();
     let words = stdin.split_whitespace().count();
+    let saturated = all.iter().filter(|(c, _)| c.vectors.contains(&255) || c.query.contains(&255)).count();
     assert!(words <= 65_536, "more words than test_calls reads");
     println!("{} cases, {done} done and {} refused, {words} words in {} bytes", all.len(), all.len() - done, stdin.len());
+    println!("{saturated} of them with samples at 255");
     std::fs::write(format!("{dir}/stdin"), stdin).unwrap();
     std::fs::write(format!("{dir}/stdout"), stdout).unwrap();
 }
