@@ -138,7 +138,8 @@ static inline size_t fjalgrout_most_pivots(size_t n) { return n < FJALGROUT_MOST
 /* The build parameters with their defaults: degree 64, beam 128, alpha 1.2, one extra seed. */
 fjalgrout_params fjalgrout_defaults(void);
 
-/* Distance: the sum of squared byte differences of two vectors, an exact whole number. Numbers 1, 11. */
+/* Distance: the sum of squared byte differences of two vectors, an exact whole number of at most 16,516,096. A sample that is 255 in either vector is saturated
+ * and adds nothing, here and wherever a call works out distances: so 0 does not mean equal bytes. Numbers 1, 11. */
 fjalgrout_answer fjalgrout_distance(const uint8_t *a, size_t a_count, const uint8_t *b, size_t b_count);
 
 /* Medoid: the id with the least sum of distances to the pivots, the lower id on equality; a start for build and search. Numbers 1, 2, 12. */

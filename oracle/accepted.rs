@@ -32,7 +32,7 @@ impl Room {
 }
 
 pub fn distance(r: &mut Rng, _: usize) {
-    let len = r.pick(&[1, 2, 7, 8, 9, 16, 63, 64, 65, 255, 256]);
+    let len = r.pick(&[1, 2, 7, 8, 9, 15, 16, 17, 31, 32, 63, 64, 65, 255, 256]);
     let (a, b) = pair(r, len);
     note(format!("length {len}"));
     note_silent(&a, &b);

@@ -35,14 +35,23 @@ static int only(fjalgrout_answer a, uint32_t number) {
 
 static void test_distance(void) {
     uint8_t low[257] = {0}, high[257];
-    memset(high, 255, sizeof high);
-    CHECK(fjalgrout_distance(low, 1, high, 1).distance == 65025);
-    CHECK(fjalgrout_distance(low, 256, high, 256).distance == 16646400);
+    memset(high, 254, sizeof high);
+    CHECK(fjalgrout_distance(low, 1, high, 1).distance == 64516);
+    CHECK(fjalgrout_distance(low, 256, high, 256).distance == 16516096);
     CHECK(fjalgrout_distance(low, 256, high, 256).number == 0);
     CHECK(only(fjalgrout_distance(low, 257, high, 257), 1));
     CHECK(only(fjalgrout_distance(low, 0, high, 0), 1));
     CHECK(only(fjalgrout_distance(low, 257, high, 1), 1));
     CHECK(only(fjalgrout_distance(low, 4, high, 5), 11));
+    /* 255 in either vector adds nothing, in whichever place */
+    for (size_t i = 0; i < 256; i++) {
+        low[i] = 255;
+        CHECK(fjalgrout_distance(low, 256, high, 256).distance == 64516 * 255);
+        CHECK(fjalgrout_distance(high, 256, low, 256).distance == 64516 * 255);
+        low[i] = 0;
+    }
+    memset(high, 255, sizeof high);
+    CHECK(only(fjalgrout_distance(low, 256, high, 256), 0));
 }
 
 /* ---- the line: dim 1, degree 2, start 0 */

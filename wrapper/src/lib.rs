@@ -106,7 +106,8 @@ fn found(answer: Answer) -> Result<Found, Refusal> {
     Ok(Found { count, expanded, measured })
 }
 
-/// Distance: the sum of squared byte differences, an exact whole number. Numbers 1, 11.
+/// Distance: the sum of squared byte differences, an exact whole number of at most 16,516,096. A sample that is 255 in either vector is saturated and adds
+/// nothing, here and wherever a call works out distances: so 0 does not mean equal bytes. Numbers 1, 11.
 pub fn distance(a: &[u8], b: &[u8]) -> Result<f32, Refusal> {
     // SAFETY: address and length are those of slices.
     let answer = unsafe { ffi::fjalgrout_distance(a.as_ptr(), a.len(), b.as_ptr(), b.len()) };

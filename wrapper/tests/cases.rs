@@ -1,5 +1,5 @@
-//! The cases of docs/01-scope.md that a public call shows, with their outcomes; those of recall, 1/13; of equal distances, as 3/13 lists them; and a search's
-//! counts, 10/13.
+//! The cases of docs/01-scope.md that a public call shows, with their outcomes; those of recall, 1/13; of equal distances, as 3/13 lists them; of saturated
+//! samples, 5/13; and a search's counts, 10/13.
 
 mod lent;
 
@@ -8,9 +8,32 @@ use lent::{line_nearest, line_search, reported, vectors, Nearest, Search, LINE};
 
 #[test]
 fn distances() {
-    assert_eq!(distance(&[0], &[255]), Ok(65_025.0));
-    assert_eq!(distance(&[0; 256], &[255; 256]), Ok(16_646_400.0));
-    assert_eq!(distance(&[0; 257], &[255; 257]), Err(Refusal(1)));
+    assert_eq!(distance(&[0], &[254]), Ok(64_516.0));
+    assert_eq!(distance(&[0; 256], &[254; 256]), Ok(16_516_096.0));
+    assert_eq!(distance(&[0; 257], &[254; 257]), Err(Refusal(1)));
+}
+
+/// A sample that is 255 in either vector adds nothing, wherever it stands; the others add what they did.
+#[test]
+fn saturated_samples() {
+    assert_eq!(distance(&[0], &[255]), Ok(0.0));
+    assert_eq!(distance(&[0, 3, 255], &[255, 7, 9]), Ok(16.0));
+    assert_eq!(distance(&[255; 256], &[0; 256]), Ok(0.0));
+    for dim in [1, 15, 16, 17, 31, 32, 64, 100, 256] {
+        for place in 0..dim {
+            let with = |sample, base| {
+                let mut vector = vec![base; dim];
+                vector[place] = sample;
+                vector
+            };
+            let rest = dim as f32 - 1.0;
+            assert_eq!(distance(&with(255, 0), &vec![1; dim]), Ok(rest));
+            assert_eq!(distance(&vec![0; dim], &with(255, 1)), Ok(rest));
+            assert_eq!(distance(&with(255, 0), &with(255, 1)), Ok(rest));
+            assert_eq!(distance(&vec![0; dim], &with(254, 1)), Ok(rest + 64_516.0));
+        }
+    }
+    assert_eq!(line_search(255, 4, 4).answers(), Ok(vec![(3, 0.0), (2, 0.0), (1, 0.0), (0, 0.0)]));
 }
 
 #[test]
