@@ -15,12 +15,14 @@
 --   Exhausting          exhaustive search: the nearest of all, and what is left out
 --   Reporting           the report of recall: what its counts say of each other, when it counts all, and that it is its calls
 --   Seeking             the program `seek`: what it prints, read back, tells and excludes the same; 10 and 11 never come from it
+--   Saturated           5/13: what the distance call tells; that nothing turns on what stands against a saturated sample
 --   Medoid              the medoid's score, and that the least wins
 --   Drawn               what is drawn is acceptable; rows are full; how soon a seed is found
 -- Statements over one part alone stand in theory: what a distance is (Metric), the test of 8 (Rule), what pruning leaves (prune.Pruned), that no loop is cut
 -- short (prune.Rounds, search.Ends, build.Runs, draws.Tries), that what is printed reads back (seek). What an accepted call has stands in accepted.
 pub mod Slack
 pub mod Outcomes
+pub mod Saturated
 pub mod Medoid
 pub mod Searching
 pub mod Held

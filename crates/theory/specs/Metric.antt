@@ -1,17 +1,17 @@
 -- What every part above the metric may use of a distance: "at most 256 samples give at most 16,646,400, below 2^24, so each distance is an exact whole
 -- number"; and it is symmetric, and 0 between equals. One record over any distance; the byte metric is one. Then the same of two entries, and of a query and
 -- an entry.
-use Prim.Native.Nat.{ℕ, zero, suc, _+_, _-_, _*_, _≤_, _<_, zero-le}
+use Prim.Native.Nat.{ℕ, zero, suc, _+_, _-_, _*_, _≤_, _<_, zero-le, min}
 use native.Mathlib.Nat.{add-comm, mul-le-mul}
 use native.Mathlib.Omega.{arith}
 use borrow.Author.Tests.{eqb-false, eq-eqb, ne-eqb}
-use mathlib.Core.Path.{_≡_, refl, ap, ap₂}
+use mathlib.Core.Path.{_≡_, refl, sym, ap, ap₂, _∙_}
 use mathlib.Core.Bool.{Bool, cond, _||_, or-comm}
 use mathlib.Core.Logic.{_⊎_, inl, inr, ⊎-elim}
 use mathlib.Core.List.{List, [], _∷_}
 use lib.Dec.{eqb}
-use lib.ListN.{length, getD, take, drop, length-take}
-use lib.Seq.{getD-drop}
+use lib.ListN.{length, getD, take, drop, length-take, length-drop}
+use lib.Seq.{getD-take, getD-drop}
 use Rattle.definition.specs.Metric.{gap, saturated, squared, summed, metric, vector, fromQuery, between}
 use Rattle.laws.specs.Truth.{branch, either-or, or-neither}
 use Rattle.whole.specs.Whole.{farthest}
@@ -124,11 +124,31 @@ metric-zero-unequal law =
     let z = ap (λ (l : List ℕ). getD l 0 0) e in
     absurd (omega arith)
 
+-- what stands against a saturated sample does not matter
+pub metric-silent : (xs ys zs : List ℕ) → length ys ≡ length zs → ((k : ℕ) → k < length ys → (getD xs k 0 ≡ 255) ⊎ (getD ys k 0 ≡ getD zs k 0))
+    → metric xs ys ≡ metric xs zs
+unfolding metric summed
+metric-silent [] ys zs l h = refl
+metric-silent (x ∷ xs) [] [] l h = refl
+metric-silent (x ∷ xs) [] (z ∷ zs) l h = absurd (omega arith)
+metric-silent (x ∷ xs) (y ∷ ys) [] l h = absurd (omega arith)
+metric-silent (x ∷ xs) (y ∷ ys) (z ∷ zs) l h =
+    let first : squared x y ≡ squared x z =
+    ⊎-elim (λ e. squared-saturated x y (inl e) ∙ sym (squared-saturated x z (inl e))) (λ e. ap (squared x) e) (h 0 (omega arith)) in
+    ap₂ (λ (a b : ℕ). a + b) first (metric-silent xs ys zs (omega arith) (λ k m. h (suc k) (omega arith)))
+
 -- ---- two entries
 
-vector-short : (dim : ℕ) (vectors : List ℕ) (i : ℕ) → length (vector dim vectors i) ≤ dim
+vector-long : (dim : ℕ) (vectors : List ℕ) (i : ℕ) → length (vector dim vectors i) ≡ min dim (length vectors - i * dim)
 unfolding vector
-vector-short dim vectors i = let l = length-take dim (drop (i * dim) vectors) in omega arith
+vector-long dim vectors i = simp (length-take, length-drop) refl
+
+vector-short : (dim : ℕ) (vectors : List ℕ) (i : ℕ) → length (vector dim vectors i) ≤ dim
+vector-short dim vectors i = let l = vector-long dim vectors i in omega arith
+
+vector-at : (dim : ℕ) (vectors : List ℕ) (i j : ℕ) → j < dim → getD (vector dim vectors i) j 0 ≡ getD vectors (i * dim + j) 0
+unfolding vector
+vector-at dim vectors i j h = getD-take dim (drop (i * dim) vectors) j 0 h ∙ getD-drop (i * dim) vectors j 0
 
 -- the distance from entry i is that from a query that is its vector
 pub between-from : (dim : ℕ) (vectors : List ℕ) (i j : ℕ) → between dim vectors i j ≡ fromQuery dim vectors (vector dim vectors i) j
@@ -154,3 +174,13 @@ between-small dim vectors h b i j = let k = between-most dim vectors b i j in om
 pub query-small : (dim : ℕ) (vectors query : List ℕ) → length query ≤ 256 → Bytes vectors → Bytes query → (i : ℕ) → fromQuery dim vectors query i ≤ farthest
 unfolding fromQuery
 query-small dim vectors query h b q i = good-most byte-metric query (vector dim vectors i) h q (bytes-vector dim vectors i b)
+
+-- of an entry only what stands against a sample of the query that is not saturated matters
+pub query-silent : (dim : ℕ) (vectors other query : List ℕ) → length vectors ≡ length other
+    → ((i j : ℕ) → j < dim → (getD query j 0 ≡ 255) ⊎ (getD vectors (i * dim + j) 0 ≡ getD other (i * dim + j) 0))
+    → (i : ℕ) → fromQuery dim vectors query i ≡ fromQuery dim other query i
+unfolding fromQuery
+query-silent dim vectors other query l h i =
+    metric-silent query (vector dim vectors i) (vector dim other i) (vector-long dim vectors i ∙ rw l (sym (vector-long dim other i)))
+    (λ j m. let in-it : j < dim = omega (arith, vector-short dim vectors i) in
+    rw (vector-at dim vectors i j in-it, vector-at dim other i j in-it) (h i j in-it))
