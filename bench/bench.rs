@@ -1,8 +1,9 @@
 //! The proved library and 000 in one binary, on one thread, over the same tables: first that they agree, then the time of each.
 //!
-//!     bench N QUERIES REPEATS [search]
+//!     bench N QUERIES REPEATS [search | distance]
 //!
-//! A search has beam 128 and asks for 128 answers, as many as 000 gives. With `search` it is all that is measured, over a table that only the library builds.
+//! A search has beam 128 and asks for 128 answers, as many as 000 gives. With `search` it is all that is measured, over a table that only the library builds;
+//! with `distance` a distance is.
 mod clock;
 #[allow(dead_code)]
 mod data;
@@ -25,8 +26,9 @@ fn line(what: &str, ours: f64, theirs: f64, unit: &str) {
     println!("{what:<28} ours {ours:>12.3} {unit}   000 {theirs:>12.3} {unit}   ratio {:.3}", ours / theirs);
 }
 
-fn distances(i: &Input, repeats: usize) {
-    let pairs: Vec<(&[u8], &[u8])> = i.vectors.chunks(DIM).zip(i.vectors.chunks(DIM).skip(1)).take(1_000).collect();
+/// One distance after another of vectors that lie side by side, once both are known to give the same.
+fn distances(what: &str, vectors: &[u8], repeats: usize) {
+    let pairs: Vec<(&[u8], &[u8])> = vectors.chunks(DIM).zip(vectors.chunks(DIM).skip(1)).take(1_000).collect();
     let over = |distance: fn(&[u8], &[u8]) -> f32| {
         best(repeats.max(20), || {
             for &(a, b) in &pairs {
@@ -34,10 +36,19 @@ fn distances(i: &Input, repeats: usize) {
             }
         })
     };
+    assert!(pairs.iter().all(|&(a, b)| ours::distance(a, b).distance == probe::distance(a, b)), "a distance");
     let ours = over(|a, b| ours::distance(a, b).distance);
     let theirs = over(probe::distance);
     let each = 1e9 / pairs.len() as f64;
-    line("one distance of 64 bytes", ours * each, theirs * each, "ns");
+    line(what, ours * each, theirs * each, "ns");
+}
+
+/// Distances of the entries, none of whose samples is saturated, and of the same with a tenth of them at 255.
+fn all_distances(i: &Input, repeats: usize) {
+    distances("one distance of 64 bytes", &i.vectors, repeats);
+    let mut g = Generator(5);
+    let clipped: Vec<u8> = i.vectors.iter().map(|&x| if g.below(10) == 0 { 255 } else { x }).collect();
+    distances("  a tenth of them 255", &clipped, repeats);
 }
 
 /// The wide and the closed table of both, once they are known to be one.
@@ -157,15 +168,16 @@ fn agree<'a>(i: &'a Input, theirs: impl Fn(&'a [u8]) -> probe::Search<'a>, table
 
 fn main() {
     let args: Vec<String> = std::env::args().skip(1).collect();
-    let numbers: Vec<usize> = args.iter().take(3).map(|a| a.parse().expect("bench N QUERIES REPEATS [search]")).collect();
-    let [n, queries, repeats] = numbers[..] else { panic!("bench N QUERIES REPEATS [search]") };
+    let numbers: Vec<usize> = args.iter().take(3).map(|a| a.parse().expect("bench N QUERIES REPEATS [search | distance]")).collect();
+    let [n, queries, repeats] = numbers[..] else { panic!("bench N QUERIES REPEATS [search | distance]") };
     println!("n {n}, dim {DIM}, degree 64, build beam 128, alpha 1.2, extra seeds 1; search beam {BEAM}, k {K}; {queries} queries, best of {repeats}");
     let i = input(n, queries);
     assert_eq!(i.start as usize, probe::medoid(n, DIM, &i.vectors, &i.pivots), "the start");
-    if args.len() > 3 {
-        return searches(&i, &built(&i), repeats);
+    match args.get(3).map(String::as_str) {
+        Some("search") => return searches(&i, &built(&i), repeats),
+        Some(_) => return all_distances(&i, repeats),
+        None => all_distances(&i, repeats),
     }
-    distances(&i, repeats);
     let (mut wide, closed) = builds(&i, repeats.min(if n > 2_000 { 2 } else { 5 }));
     rule(&i, &mut wide, repeats);
     searches(&i, &closed, repeats);

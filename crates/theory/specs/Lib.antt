@@ -1,5 +1,5 @@
 -- What follows from the definition of one part alone, over any distance and any rows: what the code's proofs and the promises cite. Each fact stands once.
---   Metric        what a distance is: symmetric, 0 between equals, at most 65,025 for each sample; over bytes
+--   Metric        what a distance is: symmetric, 0 between equals, at most 65,025 for each sample; the byte metric, its sharp bound, its saturated samples
 --   Medoid        the least of some scores wins; how far a score is from its exact sum
 --   Kept, Rule    what rows are; that the test of 8 says so, and what is known of a table's words
 --   prune         what pruning leaves; its floats stay below f32::MAX; its rounds end
