@@ -1,6 +1,6 @@
 -- What two bytes add, by the higher and the lower of them: the definition's `squared`. Assumes nothing.
-use mathlib.Core.Path.{_≡_, sym, ap, _∙_}
-use mathlib.Core.Logic.{_⊎_, inl, inr}
+use mathlib.Core.Path.{_≡_, ap, _∙_}
+use mathlib.Core.Logic.{inl, inr}
 use mathlib.Core.Bool.{cond}
 use Prim.Native.Nat.{ℕ, _-_, _*_, _≤_, _<_, min, max}
 use native.Mathlib.Omega.{arith}
