@@ -91,9 +91,9 @@ fn total(sums: &[u32; 16]) -> u32
     sum
 }
 
-// What the samples from `from` up to `to` add to the distance of two vectors, sixteen at a time. No turn goes beyond `to` as it is; with `least` the compiler
-// does not see how many turns there are. Where it sees that, it takes samples sixteen places apart into one register, and fetches them one by one.
-pub fn stretch(a: &[u8], b: &[u8], from: usize, to: usize) -> u32
+// What the samples from `from` up to `to` add, sixteen at a time. No turn goes beyond `to` as it is; with `least` the compiler does not see how many turns
+// there are. Where it sees that, it takes samples sixteen places apart into one register, and fetches them one by one.
+fn sixteens(a: &[u8], b: &[u8], from: usize, to: usize) -> u32
     requires { ⌜ Stretch (now a) (now b) from to ⌝ }
     requires { ⌜ (to - from) % 16 ≡ 0 ⌝ }
     ensures { λ r. ⌜ Adds (now (a .entry)) (now (b .entry)) from to r ⌝ }
@@ -107,33 +107,67 @@ pub fn stretch(a: &[u8], b: &[u8], from: usize, to: usize) -> u32
     total(&sums)
 }
 
-// What the samples from `from` on add, one by one.
-pub fn rest(a: &[u8], b: &[u8], from: usize) -> u32
-    requires { ⌜ Stretch (now a) (now b) from (length (now a)) ⌝ }
-    ensures { λ r. ⌜ Adds (now (a .entry)) (now (b .entry)) from (length (now (a .entry))) r ⌝ }
+// What eight samples from `at` on add.
+fn eight(a: &[u8], b: &[u8], at: usize) -> u32
+    requires { ⌜ Stretch (now a) (now b) at (at + 8) ⌝ }
+    ensures { λ r. ⌜ Adds (now (a .entry)) (now (b .entry)) at (at + 8) r ⌝ }
+{
+    let mut sum: u32 = 0;
+    let mut j = 0;
+    while j < 8 {
+        let k = at + j;
+        sum += squared(a[k], b[k]);
+        j += 1;
+    }
+    sum
+}
+
+// What the samples from `from` up to `to` add, one by one.
+fn few(a: &[u8], b: &[u8], from: usize, to: usize) -> u32
+    requires { ⌜ Stretch (now a) (now b) from to ⌝ }
+    ensures { λ r. ⌜ Adds (now (a .entry)) (now (b .entry)) from to r ⌝ }
 {
     let mut sum: u32 = 0;
     let mut i = from;
-    while i < a.len() {
+    while i < to {
         sum += squared_alone(a[i], b[i]);
         i += 1;
     }
     sum
 }
 
-// The distance of two vectors of one length: sixteen samples at a time, and then the rest, fewer than sixteen. Where there is none, as with the tower's 64, what
-// the sixteens add is returned as it is: were it always added to something, the compiler, where it has both in one function, would not keep the sixteen sums
-// together.
+// What fewer than sixteen add: eight of them at once, if there are so many.
+fn rest(a: &[u8], b: &[u8], from: usize, to: usize) -> u32
+    requires { ⌜ Stretch (now a) (now b) from to ⌝ }
+    ensures { λ r. ⌜ Adds (now (a .entry)) (now (b .entry)) from to r ⌝ }
+{
+    if to - from < 8 {
+        return few(a, b, from, to);
+    }
+    let middle = from + 8;
+    eight(a, b, from) + few(a, b, middle, to)
+}
+
+// What the samples from `from` up to `to` add to the distance of two vectors. Where there is no rest, as with the tower's 64, what the sixteens add is returned
+// as it is: were it always added to something, the compiler, where it has both in one function, would not keep the sixteen sums together.
+pub fn stretch(a: &[u8], b: &[u8], from: usize, to: usize) -> u32
+    requires { ⌜ Stretch (now a) (now b) from to ⌝ }
+    ensures { λ r. ⌜ Adds (now (a .entry)) (now (b .entry)) from to r ⌝ }
+{
+    let end = to - (to - from) % 16;
+    let most = sixteens(a, b, from, end);
+    if end == to {
+        return most;
+    }
+    most + rest(a, b, end, to)
+}
+
+// The distance of two vectors of one length.
 fn summed(a: &[u8], b: &[u8]) -> u32
     requires { ⌜ (length (now a) ≡ length (now b)) × (length (now a) ≤ 256) ⌝ }
     ensures { λ r. ⌜ Exact (metric (now (a .entry)) (now (b .entry))) r ⌝ }
 {
-    let sixteens = a.len() - a.len() % 16;
-    let most = stretch(a, b, 0, sixteens);
-    if sixteens == a.len() {
-        return most;
-    }
-    most + rest(a, b, sixteens)
+    stretch(a, b, 0, a.len())
 }
 
 // The distance of two vectors, or the number of the refusal.

@@ -8,18 +8,17 @@ ghost use Rattle.metric.specs.Exact.{VectorIn};
 ghost use Rattle.metric_within.specs.Within.{Within};
 
 // The distance of two vectors of one length, or, where the first quarter of the samples alone is above `most`, what that quarter adds. A quarter is whole
-// sixteens, rounded up.
+// sixteens, rounded up, as they are summed.
 fn summed_within(a: &[u8], b: &[u8], most: u32) -> u32
     requires { ⌜ (length (now a) ≡ length (now b)) × (length (now a) ≤ 256) ⌝ }
     ensures { λ r. ⌜ Within most (metric (now (a .entry)) (now (b .entry))) r ⌝ }
 {
     let first = (a.len() + 48) / 64 * 16;
-    let sixteens = a.len() - a.len() % 16;
     let near = metric::stretch(a, b, 0, first);
     if most < near {
         return near;
     }
-    near + metric::stretch(a, b, first, sixteens) + metric::rest(a, b, sixteens)
+    near + metric::stretch(a, b, first, a.len())
 }
 
 // The distance from a query to entry i of the flat vectors, as far as that.

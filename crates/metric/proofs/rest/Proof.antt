@@ -1,79 +1,47 @@
--- `metric::rest` meets its contract. The loop's invariant: what is summed is what the samples passed so far add. Assumes nothing.
-use mathlib.Core.Path.{_≡_, sym, subst}
-use Prim.Native.Nat.{ℕ, _+_, _-_, _≤_}
+-- `metric::rest` meets its contract: the eight and those after it, or the few, are what its samples add. Assumes nothing.
+use Prim.Native.Nat.{_+_}
 use native.Mathlib.Omega.{arith}
-use lib.ListN.{length}
 use borrow.Author.Needs.{needs}
-use Rattle.metric.specs.Stretches.{Adds, adds-none, adds-one, adds-join, adds-small}
+use Rattle.metric.specs.Stretches.{Adds, adds-join, adds-small}
 use Rattle.metric.proofs.rest.Statement.{statement}
 use Rattle.metric.proofs.rest.Tie as tie
-use Rattle.metric.proofs.rest.Reads as reads
-use Rattle.metric.proofs.rest.Lts as lts
 
-abbrev Inv-loop : tie.InvT-loop
-Inv-loop a b from sum₀ i₀ sum i = (i ≤ length a) × Adds a b from i sum
+-- the eight and those after it
+all : (c : tie.After-few2) → let s = c .before .before .before .before .before in
+    Adds (s .args .a .now) (s .args .b .now) (s .args .from) (s .args .to) (c .before .eight .result + c .few2 .result)
+all c =
+    let s = c .before .before .before .before .before in
+    adds-join _ _ (s .args .from) (s .args .from + 8) (s .args .to) _ _ (c .before .eight .ensures) (c .few2 .ensures)
 
-abbrev μ-loop : tie.MeasureT-loop
-μ-loop a b from sum₀ i₀ sum i = length a - i
+sub-if1 : tie.Need-sub-if1
+sub-if1 c = search needs
 
--- after a turn's square is added
-turn : (c : tie.After-squared-alone Inv-loop μ-loop) → let l = c .before .before .before .before in let s = l .before .before .before in
-    Adds (s .args .a .now) (s .args .b .now) (s .args .from) (l .loop .i + 1) (l .loop .sum + c .squared-alone .result)
-turn c =
-    let l = c .before .before .before .before in
-    let s = l .before .before .before in
-    let i = l .loop .i in
-    let one = adds-one (s .args .a .now) (s .args .b .now) i (s .pre .alike) (omega arith) in
-    let more = subst (λ (r : ℕ). Adds (s .args .a .now) (s .args .b .now) i (i + 1) r) (sym (c .squared-alone .ensures)) one in
-    adds-join _ _ (s .args .from) i (i + 1) (l .loop .sum) (c .squared-alone .result) (l .loop .inv .1) more
+few-requires : tie.Need-few-requires
+few-requires c κs = search needs
 
-loop-holds : tie.Need-loop-holds Inv-loop μ-loop
-loop-holds c = (search needs, adds-none _ _ _)
+returns : tie.Need-returns
+returns c = c .few .ensures
 
-shared-slice-read-squared-alone : tie.Need-shared-slice-read-squared-alone Inv-loop μ-loop
-shared-slice-read-squared-alone c = search needs
+add-middle : tie.Need-add-middle
+add-middle c = search needs
 
-shared-slice-read-squared-alone-2 : tie.Need-shared-slice-read-squared-alone-2 Inv-loop μ-loop
-shared-slice-read-squared-alone-2 c = search needs
+eight-requires : tie.Need-eight-requires
+eight-requires c κs = search needs
 
-squared-alone-requires : tie.Need-squared-alone-requires Inv-loop μ-loop
-squared-alone-requires c κs = tt
+few-requires-2 : tie.Need-few-requires-2
+few-requires-2 c κs = search needs
 
-add-sum : tie.Need-add-sum Inv-loop μ-loop
-add-sum c =
-    let l = c .before .before .before .before in
-    let known = l .before .before .shared-slice-known in
-    let known2 = l .before .shared-slice-known2 in
-    omega (arith, adds-small _ _ _ _ _ (λ k. known .given k .fits) (λ k. known2 .given k .fits) (l .before .before .before .pre .few) (turn c))
+add-result : tie.Need-add-result
+add-result c =
+    let known = c .before .before .before in
+    omega (
+      arith,
+      adds-small _ _ _ _ _ (λ k. known .before .shared-slice-known .given k .fits) (λ k. known .shared-slice-known2 .given k .fits)
+          (known .before .before .pre .few) (all c),
+    )
 
-add-i : tie.Need-add-i Inv-loop μ-loop
-add-i c = search needs
-
-loop-less : tie.Need-loop-less Inv-loop μ-loop
-loop-less c = omega arith
-
-loop-again : tie.Need-loop-again Inv-loop μ-loop
-loop-again c = (search needs, turn c)
-
-returns : tie.Need-returns Inv-loop μ-loop
-returns c =
-    let l = c .before in
-    let s = l .before .before .before in
-    let at : l .loop .i ≡ length (s .args .a .now) = omega (arith, l .loop .inv .0, c .loop-test .left) in
-    subst (λ (i : ℕ). Adds (s .args .a .now) (s .args .b .now) (s .args .from) i (l .loop .sum)) at (l .loop .inv .1)
+returns-2 : tie.Need-returns-2
+returns-2 c = all c
 
 pub rest-spec : {M : Type 1} → statement M
-rest-spec =
-    tie.close
-    (tie.spec
-    Inv-loop
-    μ-loop
-    loop-holds
-    shared-slice-read-squared-alone
-    shared-slice-read-squared-alone-2
-    squared-alone-requires
-    add-sum
-    add-i
-    loop-less
-    loop-again
-    returns)
+rest-spec = tie.close (tie.spec sub-if1 few-requires returns add-middle eight-requires few-requires-2 add-result returns-2)
