@@ -29,7 +29,7 @@
  * the search rule; lookup under none.
  *
  * Stack that a call needs, in bytes, as bin/stack measures it: batch and build 27,600, open and close 17,600, report 8,250, records 4,150, lookup and search
- * 4,090, exhaustive 2,500, every other call 250.
+ * 4,090, exhaustive 2,600, every other call 250.
  * bin/stack fails where one needs more than 32 KiB, a lookup or a search 4 KiB, or a run of records 64 bytes more. No call uses the heap.
  */
 #ifndef FJALGROUT_H
