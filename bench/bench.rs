@@ -1,9 +1,9 @@
 //! The proved library and 000 in one binary, on one thread, over the same tables: first that they agree, then the time of each.
 //!
-//!     bench N QUERIES REPEATS [search | distance | absolute]
+//!     bench N QUERIES REPEATS [search | distance]
 //!
 //! A search has beam 128 and asks for 128 answers, as many as 000 gives. With `search` it is all that is measured, over a table that only the library builds;
-//! with `distance` a distance is, by both metrics; with `absolute` a build and searches by metric 1. All else is by metric 0.
+//! with `distance` a distance is.
 mod clock;
 #[allow(dead_code)]
 mod data;
@@ -15,7 +15,7 @@ mod unchecked;
 
 use clock::best;
 use data::{built, flat, input, Generator, Input, DIM, PARAMS};
-use diskann::probe::{self, distance_by, ABSOLUTE, SQUARED};
+use diskann::probe::{self, Bytes, Counted};
 use ours::DONE;
 use std::hint::black_box;
 
@@ -26,34 +26,21 @@ fn line(what: &str, ours: f64, theirs: f64, unit: &str) {
     println!("{what:<28} ours {ours:>12.3} {unit}   000 {theirs:>12.3} {unit}   ratio {:.3}", ours / theirs);
 }
 
-/// The sum of absolute differences as one would write it without the rule of 255.
-fn plain(a: &[u8], b: &[u8]) -> f32 {
-    a.iter().zip(b).map(|(&x, &y)| u32::from(x.abs_diff(y))).sum::<u32>() as f32
-}
-
-fn ours_by<const METRIC: u32>(a: &[u8], b: &[u8]) -> f32 {
-    ours::distance(a, b, METRIC).distance
-}
-
-/// One distance after another of vectors that lie side by side, by each metric, once both are known to give the same.
+/// One distance after another of vectors that lie side by side, once both are known to give the same.
 fn distances(what: &str, vectors: &[u8], repeats: usize) {
     let pairs: Vec<(&[u8], &[u8])> = vectors.chunks(DIM).zip(vectors.chunks(DIM).skip(1)).take(1_000).collect();
     let over = |distance: fn(&[u8], &[u8]) -> f32| {
-        let time = best(repeats.max(20), || {
+        best(repeats.max(20), || {
             for &(a, b) in &pairs {
                 black_box(distance(black_box(a), black_box(b)));
             }
-        });
-        time * 1e9 / pairs.len() as f64
+        })
     };
-    assert!(pairs.iter().all(|&(a, b)| ours_by::<SQUARED>(a, b) == distance_by::<SQUARED>(a, b)), "a distance by metric 0");
-    assert!(pairs.iter().all(|&(a, b)| ours_by::<ABSOLUTE>(a, b) == distance_by::<ABSOLUTE>(a, b)), "a distance by metric 1");
-    let ours = [over(ours_by::<SQUARED>), over(ours_by::<ABSOLUTE>)];
-    let theirs = [over(distance_by::<SQUARED>), over(distance_by::<ABSOLUTE>)];
-    line(what, ours[0], theirs[0], "ns");
-    line("  by metric 1", ours[1], theirs[1], "ns");
-    println!("{:<28} ours {:>12.3}      000 {:>12.3}", "  metric 1 of metric 0", ours[1] / ours[0], theirs[1] / theirs[0]);
-    println!("{:<28} loop {:>12.3} ns", "  by metric 1 without 255", over(plain));
+    assert!(pairs.iter().all(|&(a, b)| ours::distance(a, b).distance == probe::distance(a, b)), "a distance");
+    let ours = over(|a, b| ours::distance(a, b).distance);
+    let theirs = over(probe::distance);
+    let each = 1e9 / pairs.len() as f64;
+    line(what, ours * each, theirs * each, "ns");
 }
 
 /// Distances of the entries, none of whose samples is saturated, and of the same with a tenth of them at 255.
@@ -67,12 +54,12 @@ fn all_distances(i: &Input, repeats: usize) {
 /// The wide and the closed table of both, once they are known to be one.
 fn builds(i: &Input, repeats: usize) -> (Vec<u32>, Vec<u32>) {
     let (n, width) = (i.n, ours::slack(PARAMS.degree));
-    let call = ours::Build { n, dim: DIM, vectors: &i.vectors, params: i.params(), start: i.start, order: &i.order, seeds: &i.seeds };
+    let call = ours::Build { n, dim: DIM, vectors: &i.vectors, params: PARAMS, start: i.start, order: &i.order, seeds: &i.seeds };
     let theirs = || probe::Build {
         n,
         dim: DIM,
         vectors: &i.vectors,
-        params: probe::Params { degree: PARAMS.degree, beam: PARAMS.beam, alpha: PARAMS.alpha, metric: i.metric, extra: PARAMS.extra },
+        params: probe::Params { degree: PARAMS.degree, beam: PARAMS.beam, alpha: PARAMS.alpha, extra: PARAMS.extra },
         start: i.start,
         order: &i.order,
         seeds: &i.seeds,
@@ -85,11 +72,12 @@ fn builds(i: &Input, repeats: usize) -> (Vec<u32>, Vec<u32>) {
     let mut built = (vec![], vec![]);
     let fed = (0..repeats).map(|_| theirs()).collect::<Vec<_>>();
     let mut fed = fed.into_iter();
-    let time = best(repeats, || built = probe::build(fed.next().unwrap()));
+    let time = best(repeats, || built = probe::build(fed.next().unwrap(), Bytes));
     assert!(wide == flat(&built.0, width) && closed == flat(&built.1, PARAMS.degree), "the tables");
     line("build", ours, time, "s ");
     if n <= 10_000 {
-        println!("{:<28} 000 {}", "  distances of a build", probe::count_build(theirs()));
+        probe::build(theirs(), Counted);
+        println!("{:<28} 000 {}", "  distances of a build", probe::distances());
     }
     (wide, closed)
 }
@@ -100,7 +88,7 @@ fn rule(i: &Input, built: &mut [u32], repeats: usize) {
     let (n, width) = (i.n, ours::slack(PARAMS.degree));
     let mut g = Generator(1);
     let mut opened = flat(&(0..n).map(|k| g.row(k, n, width)).collect::<Vec<_>>(), width);
-    let call = ours::Build { n, dim: DIM, vectors: &i.vectors, params: i.params(), start: i.start, order: &[], seeds: &[] };
+    let call = ours::Build { n, dim: DIM, vectors: &i.vectors, params: PARAMS, start: i.start, order: &[], seeds: &[] };
     let (mut words, mut floats) = (vec![0; 6 * n + 32_767], vec![0.0; 4 * n + 1_024]);
     for (what, wide) in [("the build rule, full rows", &mut opened[..]), ("the build rule, rows built", built)] {
         let bytes = std::mem::size_of_val(wide) as f64;
@@ -115,14 +103,14 @@ fn rule(i: &Input, built: &mut [u32], repeats: usize) {
 type Found = fn(ours::Search, &mut [u32], &mut [f32], &mut [u32], &mut [f32]) -> ours::Answer;
 
 fn searches(i: &Input, table: &[u32], repeats: usize) {
-    let (n, metric, degree, start, vectors) = (i.n, i.metric, PARAMS.degree, i.start, &i.vectors[..]);
+    let (n, degree, start, vectors) = (i.n, PARAMS.degree, i.start, &i.vectors[..]);
     let (mut words, mut floats) = (vec![0; n + 512], vec![0.0; 512]);
     let (mut ids, mut dists) = (vec![0; K], vec![0.0; K]);
     let mut call = |search: Found, beam: usize, query: &[u8]| {
-        let call = ours::Search { n, dim: DIM, vectors, metric, degree, beam, k: K, start, table, query };
+        let call = ours::Search { n, dim: DIM, vectors, degree, beam, k: K, start, table, query };
         black_box(search(call, &mut words, &mut floats, &mut ids, &mut dists))
     };
-    let theirs = |query| probe::Search { dim: DIM, vectors, metric, degree, table, query, start, beam: BEAM };
+    let theirs = |query| probe::Search { dim: DIM, vectors, degree, table, query, start, beam: BEAM };
     agree(i, theirs, table);
     let asked = i.queries.len() as f64;
     // refused by 11, so after the whole of the checks before it, the pass over the table for 8 among them
@@ -143,7 +131,7 @@ fn searches(i: &Input, table: &[u32], repeats: usize) {
             call(ours::search, BEAM, &long);
         }
     });
-    let time = best(repeats, || i.queries.iter().for_each(|q| drop(black_box(probe::found(theirs(q))))));
+    let time = best(repeats, || i.queries.iter().for_each(|q| drop(black_box(probe::found(theirs(q), Bytes)))));
     let each = 1e6 / asked;
     line("lookup, whole call", looked_up * each, time * each, "us");
     line("search, whole call", whole * each, time * each, "us");
@@ -161,18 +149,8 @@ fn agree<'a>(i: &'a Input, theirs: impl Fn(&'a [u8]) -> probe::Search<'a>, table
     for query in &i.queries {
         let expected = probe::walk(theirs(query));
         for search in [ours::search as Found, ours::lookup, unchecked::search] {
-            let call = ours::Search {
-                n,
-                dim: DIM,
-                vectors: &i.vectors,
-                metric: i.metric,
-                degree: PARAMS.degree,
-                beam: BEAM,
-                k: K,
-                start: i.start,
-                table,
-                query,
-            };
+            let call =
+                ours::Search { n, dim: DIM, vectors: &i.vectors, degree: PARAMS.degree, beam: BEAM, k: K, start: i.start, table, query };
             let (mut words, mut floats) = (vec![0; n + 512], vec![0.0; 512]);
             let (mut ids, mut dists) = (vec![0; K], vec![0.0; K]);
             let answer = search(call, &mut words, &mut floats, &mut ids, &mut dists);
@@ -190,18 +168,14 @@ fn agree<'a>(i: &'a Input, theirs: impl Fn(&'a [u8]) -> probe::Search<'a>, table
 
 fn main() {
     let args: Vec<String> = std::env::args().skip(1).collect();
-    const USAGE: &str = "bench N QUERIES REPEATS [search | distance | absolute]";
-    let numbers: Vec<usize> = args.iter().take(3).map(|a| a.parse().expect(USAGE)).collect();
-    let [n, queries, repeats] = numbers[..] else { panic!("{USAGE}") };
-    let metric = u32::from(args.get(3).is_some_and(|a| a == "absolute"));
-    println!("n {n}, dim {DIM}, degree 64, build beam 128, alpha 1.2, metric {metric}, extra seeds 1; search beam {BEAM}, k {K}");
-    println!("{queries} queries, best of {repeats}");
-    let i = input(n, queries, metric);
-    assert_eq!(i.start as usize, probe::medoid(n, DIM, &i.vectors, metric, &i.pivots), "the start");
+    let numbers: Vec<usize> = args.iter().take(3).map(|a| a.parse().expect("bench N QUERIES REPEATS [search | distance]")).collect();
+    let [n, queries, repeats] = numbers[..] else { panic!("bench N QUERIES REPEATS [search | distance]") };
+    println!("n {n}, dim {DIM}, degree 64, build beam 128, alpha 1.2, extra seeds 1; search beam {BEAM}, k {K}; {queries} queries, best of {repeats}");
+    let i = input(n, queries);
+    assert_eq!(i.start as usize, probe::medoid(n, DIM, &i.vectors, &i.pivots), "the start");
     match args.get(3).map(String::as_str) {
         Some("search") => return searches(&i, &built(&i), repeats),
-        Some("distance") => return all_distances(&i, repeats),
-        Some(_) => (),
+        Some(_) => return all_distances(&i, repeats),
         None => all_distances(&i, repeats),
     }
     let (mut wide, closed) = builds(&i, repeats.min(if n > 2_000 { 2 } else { 5 }));

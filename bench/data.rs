@@ -1,9 +1,9 @@
 //! What is measured on: entries of 64 bytes in clusters, drawn by document 01's generator, and so are opening rows, order, seeds and pivots. The
-//! parameters are 000's defaults: degree 64, beam 128, alpha 1.2, one extra seed; the metric is either.
+//! parameters are 000's defaults: degree 64, beam 128, alpha 1.2, one extra seed.
 use crate::ours::{self, Params, PAD};
 
 pub const DIM: usize = 64;
-pub const PARAMS: Params = Params { degree: 64, beam: 128, alpha: 1.2, metric: 0, extra: 1 };
+pub const PARAMS: Params = Params { degree: 64, beam: 128, alpha: 1.2, extra: 1 };
 
 /// Document 01, part 10.
 pub struct Generator(pub u64);
@@ -56,7 +56,6 @@ impl Clusters {
 pub struct Input {
     pub n: usize,
     pub vectors: Vec<u8>,
-    pub metric: u32,
     pub queries: Vec<Vec<u8>>,
     pub pivots: Vec<u32>,
     pub start: u32,
@@ -65,25 +64,17 @@ pub struct Input {
     pub rows: Vec<Vec<u32>>,
 }
 
-impl Input {
-    /// Of its build.
-    pub fn params(&self) -> Params {
-        Params { metric: self.metric, ..PARAMS }
-    }
-}
-
-/// The same entries and queries by either metric; the start is the metric's own medoid.
-pub fn input(n: usize, queries: usize, metric: u32) -> Input {
+pub fn input(n: usize, queries: usize) -> Input {
     let mut g = Generator(n as u64);
     let clusters = Clusters::new(&mut g, (n / 100).max(8));
     let vectors: Vec<u8> = (0..n).flat_map(|_| clusters.entry(&mut g)).collect();
     let queries = (0..queries).map(|_| clusters.entry(&mut g)).collect();
     let pivots: Vec<u32> = (0..8).map(|_| g.below(n) as u32).collect();
-    let start = ours::medoid(n, DIM, &vectors, metric, &pivots).id;
+    let start = ours::medoid(n, DIM, &vectors, &pivots).id;
     let rows = (0..n).map(|i| g.row(i, n, PARAMS.degree)).collect();
     let order = g.order(n);
     let seeds = (0..n).map(|_| g.seed(n, start)).collect();
-    Input { n, vectors, metric, queries, pivots, start, order, seeds, rows }
+    Input { n, vectors, queries, pivots, start, order, seeds, rows }
 }
 
 pub fn flat(rows: &[Vec<u32>], width: usize) -> Vec<u32> {
@@ -93,7 +84,7 @@ pub fn flat(rows: &[Vec<u32>], width: usize) -> Vec<u32> {
 /// The closed table of a whole build, by the proved library.
 pub fn built(i: &Input) -> Vec<u32> {
     let n = i.n;
-    let call = ours::Build { n, dim: DIM, vectors: &i.vectors, params: i.params(), start: i.start, order: &i.order, seeds: &i.seeds };
+    let call = ours::Build { n, dim: DIM, vectors: &i.vectors, params: PARAMS, start: i.start, order: &i.order, seeds: &i.seeds };
     let opening = flat(&i.rows, PARAMS.degree);
     let (mut wide, mut closed) = (vec![0; n * ours::slack(PARAMS.degree)], vec![0; n * PARAMS.degree]);
     let (mut words, mut floats) = (vec![0; 6 * n + 32_768], vec![0.0; 4 * n + 1_024]);

@@ -2,9 +2,9 @@
 //
 //     peers N QUERIES REPEATS
 //
-// Entries are 64 bytes in clusters, as in bench.rs; none has a sample of 255, so that hnswlib's plain squared distance is ours by metric 0. Ours: degree 64,
-// build beam 128, alpha 1.2, one extra seed; lookups with beams 8 to 256. hnswlib: M 32, so 64 links on its lowest level, ef_construction 128; ef 16 to 512.
-// Both are asked for 10. Recall is counted by distance: an answer as near as the tenth of the true ones is a true one.
+// Entries are 64 bytes in clusters, as in bench.rs; none has a sample of 255, so that hnswlib's plain squared distance is ours. Ours: degree 64, build beam
+// 128, alpha 1.2, one extra seed; lookups with beams 8 to 256. hnswlib: M 32, so 64 links on its lowest level, ef_construction 128; ef 16 to 512. Both are
+// asked for 10. Recall is counted by distance: an answer as near as the tenth of the true ones is a true one.
 #include <fjalgrout.h>
 #include <hnswlib/hnswlib.h>
 
@@ -116,7 +116,7 @@ std::vector<Point> ours(const Input &i, size_t repeats) {
     std::vector<float> floats(floats_count);
     uint32_t pivots[FJALGROUT_MOST_PIVOTS];
     need("pivots", step(fjalgrout_pivots(state, n, pivots, FJALGROUT_MOST_PIVOTS)));
-    fjalgrout_answer middle = fjalgrout_medoid(n, DIM, i.vectors.data(), n * DIM, p.metric, pivots, fjalgrout_most_pivots(n));
+    fjalgrout_answer middle = fjalgrout_medoid(n, DIM, i.vectors.data(), n * DIM, pivots, fjalgrout_most_pivots(n));
     need("medoid", middle);
     need("rows", step(fjalgrout_rows(state, n, p.degree, opening.data(), closed_words)));
     need("order", step(fjalgrout_order(state, n, order.data(), n)));
@@ -131,8 +131,8 @@ std::vector<Point> ours(const Input &i, size_t repeats) {
         uint32_t ids[K];
         points.push_back(measure(i, beam, repeats, [&](const uint8_t *query, float *dists) {
             fjalgrout_answer a =
-                fjalgrout_lookup(n, DIM, i.vectors.data(), n * DIM, p.metric, p.degree, beam, K, middle.id, closed.data(), closed_words, query, DIM,
-                                 words.data(), fjalgrout_search_words(n), floats.data(), fjalgrout_search_floats(n), ids, K, dists, K);
+                fjalgrout_lookup(n, DIM, i.vectors.data(), n * DIM, p.degree, beam, K, middle.id, closed.data(), closed_words, query, DIM, words.data(),
+                                 fjalgrout_search_words(n), floats.data(), fjalgrout_search_floats(n), ids, K, dists, K);
             need("lookup", a);
             return a.count;
         }));

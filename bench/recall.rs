@@ -26,12 +26,12 @@ struct Lent {
 
 /// The report of all queries, and of a lookup, over all queries: entries expanded, distances worked out, and the time, in us.
 fn with_beam(i: &Input, table: &[u32], queries: &[u8], beam: usize, repeats: usize, lent: &mut Lent) -> (ours::Report, [f64; 3]) {
-    let (n, metric, degree, start, vectors) = (i.n, i.metric, PARAMS.degree, i.start, &i.vectors[..]);
-    let call = Recall { n, dim: DIM, vectors, metric, degree, beam, k: K, start, table, queries };
+    let (n, degree, start, vectors) = (i.n, PARAMS.degree, i.start, &i.vectors[..]);
+    let call = Recall { n, dim: DIM, vectors, degree, beam, k: K, start, table, queries };
     let report = ours::report(call, &mut lent.words, &mut lent.floats);
     assert_eq!(report.number, 0);
     let mut lookup = |query: &[u8]| {
-        let call = Search { n, dim: DIM, vectors, metric, degree, beam, k: K, start, table, query };
+        let call = Search { n, dim: DIM, vectors, degree, beam, k: K, start, table, query };
         black_box(ours::lookup(black_box(call), &mut lent.words, &mut lent.floats, &mut lent.ids, &mut lent.dists))
     };
     let (mut expanded, mut measured) = (0, 0);
@@ -53,7 +53,7 @@ fn exhausted(i: &Input, repeats: usize, lent: &mut Lent) -> f64 {
     let queries = &i.queries[..i.queries.len().div_ceil(10)];
     let time = best(repeats, || {
         for query in queries {
-            let call = Exhaustive { n: i.n, dim: DIM, vectors: &i.vectors, metric: i.metric, k: K, query };
+            let call = Exhaustive { n: i.n, dim: DIM, vectors: &i.vectors, k: K, query };
             black_box(ours::exhaustive(black_box(call), &mut lent.ids, &mut lent.dists));
         }
     });
@@ -64,7 +64,7 @@ fn main() {
     let args: Vec<usize> = std::env::args().skip(1).map(|a| a.parse().expect("recall N QUERIES REPEATS")).collect();
     let [n, queries, repeats] = args[..] else { panic!("recall N QUERIES REPEATS") };
     println!("n {n}, dim {DIM}, degree 64, build beam 128, alpha 1.2, extra seeds 1; k {K}; {queries} queries, best of {repeats}");
-    let i = input(n, queries, 0);
+    let i = input(n, queries);
     let table = built(&i);
     let mut lent = Lent { words: vec![0; n + 1_024], floats: vec![0.0; 1_024], ids: [0; K], dists: [0.0; K] };
     let all = i.queries.concat();

@@ -62,7 +62,7 @@ static void *make(size_t count, size_t size) {
 }
 
 static struct world world(size_t n, size_t dim, size_t degree, size_t extra) {
-    struct world w = {.n = n, .dim = dim, .params = {.degree = degree, .beam = FJALGROUT_MOST_BEAM, .alpha = 1.2f, .extra = extra}, .state = n};
+    struct world w = {.n = n, .dim = dim, .params = {degree, FJALGROUT_MOST_BEAM, 1.2f, extra}, .state = n};
     w.vectors = make(n * dim, 1);
     for (size_t i = 0; i < n * dim; i++) {
         fjalgrout_stepped s = fjalgrout_draw(w.state, 256);
@@ -90,11 +90,11 @@ static uint32_t number; /* what the case's call returned */
 
 static void nothing(void) { number = 0; }
 static void defaults(void) { number = fjalgrout_defaults().degree == 64 ? 0 : 99; }
-static void distance(void) { number = fjalgrout_distance(w.vectors, w.dim, w.vectors, w.dim, w.params.metric).number; }
+static void distance(void) { number = fjalgrout_distance(w.vectors, w.dim, w.vectors, w.dim).number; }
 
 static void medoid(void) {
     static const uint32_t pivots[8] = {0, 1, 2, 3, 3, 2, 1, 0};
-    number = fjalgrout_medoid(w.n, w.dim, w.vectors, w.n * w.dim, w.params.metric, pivots, 8).number;
+    number = fjalgrout_medoid(w.n, w.dim, w.vectors, w.n * w.dim, pivots, 8).number;
 }
 
 static void batch_of(size_t nodes) {
@@ -125,14 +125,14 @@ static void build(void) {
 }
 
 static void search(void) {
-    number = fjalgrout_search(w.n, w.dim, w.vectors, w.n * w.dim, w.params.metric, w.params.degree, w.params.beam, FJALGROUT_MOST_BEAM, w.start, w.opening,
+    number = fjalgrout_search(w.n, w.dim, w.vectors, w.n * w.dim, w.params.degree, w.params.beam, FJALGROUT_MOST_BEAM, w.start, w.opening,
                               fjalgrout_closed_words(w.n, w.params.degree), w.vectors, w.dim, w.words, fjalgrout_search_words(w.n), w.floats,
                               fjalgrout_search_floats(w.n), w.ids, FJALGROUT_MOST_BEAM, w.dists, FJALGROUT_MOST_BEAM)
                  .number;
 }
 
 static void lookup(void) {
-    number = fjalgrout_lookup(w.n, w.dim, w.vectors, w.n * w.dim, w.params.metric, w.params.degree, w.params.beam, FJALGROUT_MOST_BEAM, w.start, w.opening,
+    number = fjalgrout_lookup(w.n, w.dim, w.vectors, w.n * w.dim, w.params.degree, w.params.beam, FJALGROUT_MOST_BEAM, w.start, w.opening,
                               fjalgrout_closed_words(w.n, w.params.degree), w.vectors, w.dim, w.words, fjalgrout_search_words(w.n), w.floats,
                               fjalgrout_search_floats(w.n), w.ids, FJALGROUT_MOST_BEAM, w.dists, FJALGROUT_MOST_BEAM)
                  .number;
@@ -141,21 +141,20 @@ static void lookup(void) {
 static void fit(void) { number = fjalgrout_fit(w.n, w.params.degree, w.opening, fjalgrout_closed_words(w.n, w.params.degree)).number; }
 
 static void exhaustive(void) {
-    number = fjalgrout_exhaustive(w.n, w.dim, w.vectors, w.n * w.dim, w.params.metric, FJALGROUT_MOST_K, w.vectors, w.dim, w.ids, FJALGROUT_MOST_K, w.dists,
-                                  FJALGROUT_MOST_K)
+    number = fjalgrout_exhaustive(w.n, w.dim, w.vectors, w.n * w.dim, FJALGROUT_MOST_K, w.vectors, w.dim, w.ids, FJALGROUT_MOST_K, w.dists, FJALGROUT_MOST_K)
                  .number;
 }
 
 /* Of four queries, the first four entries. */
 static void report(void) {
-    number = fjalgrout_report(w.n, w.dim, w.vectors, w.n * w.dim, w.params.metric, w.params.degree, w.params.beam, FJALGROUT_MOST_K, w.start, w.opening,
+    number = fjalgrout_report(w.n, w.dim, w.vectors, w.n * w.dim, w.params.degree, w.params.beam, FJALGROUT_MOST_K, w.start, w.opening,
                               fjalgrout_closed_words(w.n, w.params.degree), w.vectors, 4 * w.dim, w.words, fjalgrout_report_words(w.n), w.floats,
                               fjalgrout_report_floats(w.n))
                  .number;
 }
 
 static void records(void) {
-    number = fjalgrout_records(w.n, w.dim, w.vectors, w.n * w.dim, w.params.metric, w.params.degree, w.params.beam, FJALGROUT_MOST_BEAM, w.start, w.opening,
+    number = fjalgrout_records(w.n, w.dim, w.vectors, w.n * w.dim, w.params.degree, w.params.beam, FJALGROUT_MOST_BEAM, w.start, w.opening,
                                fjalgrout_closed_words(w.n, w.params.degree), w.vectors, w.dim, w.words, fjalgrout_search_words(w.n), w.floats,
                                fjalgrout_search_floats(w.n), w.ids, FJALGROUT_MOST_BEAM, w.dists, FJALGROUT_MOST_BEAM, w.run, FJALGROUT_MOST_BEAM)
                  .number;
@@ -209,15 +208,13 @@ static void draws(void) {
     for (size_t i = w.params.extra; i < w.n * w.params.extra; i++) w.seeds[i] = w.seeds[i - w.params.extra];
 }
 
-/* Whole calls on a small world, by either metric. */
+/* Whole calls on a small world. */
 static void whole(void) {
     draws();
-    for (w.params.metric = 0; w.params.metric < 2; w.params.metric++) {
-        one("defaults", 0), one("distance", 0), one("medoid", 0), one("search", 0), one("lookup", 0), one("fit", 0), one("records", 0);
-        one("exhaustive", 0), one("report", 0);
-        one("open", 0), one("batch", 0), one("close", 0), one("build", 0);
-        one("close", 0), one("batch", 0);
-    }
+    one("defaults", 0), one("distance", 0), one("medoid", 0), one("search", 0), one("lookup", 0), one("fit", 0), one("records", 0);
+    one("exhaustive", 0), one("report", 0);
+    one("open", 0), one("batch", 0), one("close", 0), one("build", 0);
+    one("close", 0), one("batch", 0);
 }
 
 /* As many entries as there can be: all but what takes minutes. Too little room is found after every other check of a build. */

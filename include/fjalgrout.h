@@ -7,15 +7,13 @@
  *   - nothing else writes to a lent slice before the call returns.
  * All else is checked by the call: bad input gets its number, and a refusal changes no byte of a lent slice.
  *
- * The numbers, each given exactly when its line holds. A call checks those that are listed at it, in the order of this list, which rises but for 18; the first
- * that holds is returned.
+ * The numbers, each given exactly when its line holds. A call checks, in rising number, those that are listed at it; the first that holds is returned.
  *    0  done
  *    1  dim (for distance, the first vector's length) is 0 or above 256
  *    2  n is 0 or above 65,536, or the vectors are not n x dim bytes
  *    3  degree is 0 or above 64
  *    4  beam above 256
  *    5  alpha above 4.0, infinity included
- *   18  metric is neither 0 nor 1
  *    6  start id not below n
  *    7  extra seeds above 16 or not below n; seeds not that many per node; a seed not below n, equal to the start, or repeated within its group
  *    8  a table, also one to be written, has the wrong length, or an entry of one that is read breaks its rule
@@ -47,13 +45,6 @@ extern "C" {
 /* The padding word of a table. */
 #define FJALGROUT_PADDING UINT32_C(0xFFFFFFFF)
 
-/* The metrics. A distance is the sum of what two samples add, sample by sample: by SQUARED the square of their difference, by ABSOLUTE the difference itself;
- * and by either nothing where one of the two is 255. It is a whole number, at most 16,516,096 by SQUARED and 65,024 by ABSOLUTE. The caller states the metric
- * in every call that works out distances. A table carries none, so it is for the caller to search it with the metric that it was built with: nothing tells if
- * it is not. Such a search is defined and as safe, and its answers are just those of its walk; but the rows were not chosen for it. */
-#define FJALGROUT_METRIC_SQUARED UINT32_C(0)
-#define FJALGROUT_METRIC_ABSOLUTE UINT32_C(1)
-
 /* The limits. */
 #define FJALGROUT_MOST_DIM 256
 #define FJALGROUT_MOST_ENTRIES 65536
@@ -80,12 +71,11 @@ typedef struct {
     size_t measured;
 } fjalgrout_answer;
 
-/* The build parameters. NaN alpha and any alpha below 1.0 act as 1.0. Beam 0 is legal. The metric is one of the two above. */
+/* The build parameters. NaN alpha and any alpha below 1.0 act as 1.0. Beam 0 is legal. */
 typedef struct {
     size_t degree;
     size_t beam;
     float alpha;
-    uint32_t metric;
     size_t extra;
 } fjalgrout_params;
 
@@ -145,22 +135,19 @@ static inline size_t fjalgrout_report_floats(size_t n) { return (void)n, 1024; }
 /* The pivots that a draw of them writes: min(8, n). */
 static inline size_t fjalgrout_most_pivots(size_t n) { return n < FJALGROUT_MOST_PIVOTS ? n : FJALGROUT_MOST_PIVOTS; }
 
-/* The build parameters with their defaults: degree 64, beam 128, alpha 1.2, metric 0, one extra seed. */
+/* The build parameters with their defaults: degree 64, beam 128, alpha 1.2, one extra seed. */
 fjalgrout_params fjalgrout_defaults(void);
 
-/* Distance: of two vectors by the metric, an exact whole number: the sum of squared byte differences, at most 16,516,096, or of absolute ones, at most 65,024.
- * A sample that is 255 in either vector is saturated and adds nothing, here and wherever a call works out distances: so 0 does not mean equal bytes.
- * Numbers 1, 18, 11. */
-fjalgrout_answer fjalgrout_distance(const uint8_t *a, size_t a_count, const uint8_t *b, size_t b_count, uint32_t metric);
+/* Distance: the sum of squared byte differences of two vectors, an exact whole number of at most 16,516,096. A sample that is 255 in either vector is saturated
+ * and adds nothing, here and wherever a call works out distances: so 0 does not mean equal bytes. Numbers 1, 11. */
+fjalgrout_answer fjalgrout_distance(const uint8_t *a, size_t a_count, const uint8_t *b, size_t b_count);
 
-/* Medoid: the id with the least sum of distances to the pivots, the lower id on equality; a start for build and search. The sums are f32: by metric 1 always
- * exact, by metric 0 exact for a dim of at most 32 and beyond that within 21. Numbers 1, 2, 18, 12. */
-fjalgrout_answer fjalgrout_medoid(size_t n, size_t dim, const uint8_t *vectors, size_t vectors_count, uint32_t metric, const uint32_t *pivots,
-                                  size_t pivots_count);
+/* Medoid: the id with the least sum of distances to the pivots, the lower id on equality; a start for build and search. Numbers 1, 2, 12. */
+fjalgrout_answer fjalgrout_medoid(size_t n, size_t dim, const uint8_t *vectors, size_t vectors_count, const uint32_t *pivots, size_t pivots_count);
 
 /* Batch: the listed nodes (at most 256) get fresh rows, all from the rows as they were before the batch, and the rows that these name are merged.
  * `seeds` has params.extra ids for each node, in the nodes' order. A batch of no nodes is done and alters no row. Room: build_words, build_floats.
- * Numbers 1 to 5, 18, 6 to 10. */
+ * Numbers 1 to 10. */
 fjalgrout_answer fjalgrout_batch(size_t n, size_t dim, const uint8_t *vectors, size_t vectors_count, fjalgrout_params params, uint32_t start,
                                  const uint32_t *nodes, size_t nodes_count, const uint32_t *seeds, size_t seeds_count, uint32_t *wide,
                                  size_t wide_count, uint32_t *words, size_t words_count, float *floats, size_t floats_count);
@@ -169,14 +156,14 @@ fjalgrout_answer fjalgrout_batch(size_t n, size_t dim, const uint8_t *vectors, s
 fjalgrout_answer fjalgrout_open(size_t n, size_t degree, const uint32_t *opening, size_t opening_count, uint32_t *wide, size_t wide_count);
 
 /* Close: prunes each wide row longer than degree and copies the others. params.beam and params.extra are ignored. Room: build_words, build_floats.
- * Numbers 1, 2, 3, 5, 18, 8, 10. */
+ * Numbers 1, 2, 3, 5, 8, 10. */
 fjalgrout_answer fjalgrout_close(size_t n, size_t dim, const uint8_t *vectors, size_t vectors_count, fjalgrout_params params, const uint32_t *wide,
                                  size_t wide_count, uint32_t *closed, size_t closed_count, uint32_t *words, size_t words_count, float *floats,
                                  size_t floats_count);
 
 /* Whole build: open, the order in batches of 256 with the last shorter, close. `order` is a permutation of 0..n-1, `seeds` has params.extra ids for
- * each node, in that order. The wide table stays as after the last batch; `closed` is the table to search, with the same metric. Room: build_words,
- * build_floats. Numbers 1 to 5, 18, 6 to 10. */
+ * each node, in that order. The wide table stays as after the last batch; `closed` is the table to search. Room: build_words, build_floats.
+ * Numbers 1 to 10. */
 fjalgrout_answer fjalgrout_build(size_t n, size_t dim, const uint8_t *vectors, size_t vectors_count, fjalgrout_params params, uint32_t start,
                                  const uint32_t *order, size_t order_count, const uint32_t *seeds, size_t seeds_count, const uint32_t *opening,
                                  size_t opening_count, uint32_t *wide, size_t wide_count, uint32_t *closed, size_t closed_count, uint32_t *words,
@@ -186,17 +173,17 @@ fjalgrout_answer fjalgrout_build(size_t n, size_t dim, const uint8_t *vectors, s
  * ids. The outputs beyond them are untouched. Beam 0 acts as 1, k = 0 gives no answers. What a full beam keeps is another matter: of equals the lower id.
  * There are at most most_answers of them, min(k, max(beam, 1)). Fewer than that are all that the rows lead to from the start. As many as that: an entry
  * that is missing can be reached only by passing some entry that is no nearer than the last answer. (It may be nearer itself: the search is greedy.)
- * Room: search_words, search_floats; each output most_answers. Numbers 1, 2, 3, 4, 18, 6, 8, 10, 11. */
-fjalgrout_answer fjalgrout_search(size_t n, size_t dim, const uint8_t *vectors, size_t vectors_count, uint32_t metric, size_t degree, size_t beam,
-                                  size_t k, uint32_t start, const uint32_t *table, size_t table_count, const uint8_t *query, size_t query_count,
+ * Room: search_words, search_floats; each output most_answers. Numbers 1, 2, 3, 4, 6, 8, 10, 11. */
+fjalgrout_answer fjalgrout_search(size_t n, size_t dim, const uint8_t *vectors, size_t vectors_count, size_t degree, size_t beam, size_t k,
+                                  uint32_t start, const uint32_t *table, size_t table_count, const uint8_t *query, size_t query_count,
                                   uint32_t *words, size_t words_count, float *floats, size_t floats_count, uint32_t *ids, size_t ids_count,
                                   float *dists, size_t dists_count);
 
 /* Lookup: what a tower calls. The same search, over the same table, outputs and room and in the same order, without the pass over the table: 8 is given for
  * its length alone, and a word that is no id below n reads as padding. So it is safe on every table, and where fit gives 0 it is search itself, refusals
- * included. Where it does not, the answers are those of the table with padding in place of every such word. Numbers 1, 2, 3, 4, 18, 6, 8, 10, 11. */
-fjalgrout_answer fjalgrout_lookup(size_t n, size_t dim, const uint8_t *vectors, size_t vectors_count, uint32_t metric, size_t degree, size_t beam,
-                                  size_t k, uint32_t start, const uint32_t *table, size_t table_count, const uint8_t *query, size_t query_count,
+ * included. Where it does not, the answers are those of the table with padding in place of every such word. Numbers 1, 2, 3, 4, 6, 8, 10, 11. */
+fjalgrout_answer fjalgrout_lookup(size_t n, size_t dim, const uint8_t *vectors, size_t vectors_count, size_t degree, size_t beam, size_t k,
+                                  uint32_t start, const uint32_t *table, size_t table_count, const uint8_t *query, size_t query_count,
                                   uint32_t *words, size_t words_count, float *floats, size_t floats_count, uint32_t *ids, size_t ids_count,
                                   float *dists, size_t dists_count);
 
@@ -206,22 +193,22 @@ fjalgrout_answer fjalgrout_fit(size_t n, size_t degree, const uint32_t *table, s
 
 /* Exhaustive: the true nearest, from the distances to all n entries and with no table. min(k, n) answers by distance, then the higher id, as ids and
  * distances; of equals at the cut to k the higher ids. The outputs beyond them are untouched. Each output must have room for most_nearest, min(k, n).
- * Numbers 1, 2, 18, 10, 11, 14. */
-fjalgrout_answer fjalgrout_exhaustive(size_t n, size_t dim, const uint8_t *vectors, size_t vectors_count, uint32_t metric, size_t k,
-                                      const uint8_t *query, size_t query_count, uint32_t *ids, size_t ids_count, float *dists, size_t dists_count);
+ * Numbers 1, 2, 10, 11, 14. */
+fjalgrout_answer fjalgrout_exhaustive(size_t n, size_t dim, const uint8_t *vectors, size_t vectors_count, size_t k, const uint8_t *query,
+                                      size_t query_count, uint32_t *ids, size_t ids_count, float *dists, size_t dists_count);
 
 /* Report: how many of the true nearest the search brings, in whole numbers. `queries` holds up to 65,535 of them one after another, dim bytes each, and may
  * be empty. Each is searched for, as fjalgrout_search does with this table, start, beam and k, and then exhaustively; an answer is found where its id is
  * among the nearest: where the cut to k divides equals, one of a lower id is not, though it is as near. Room: report_words, report_floats.
- * Numbers 1, 2, 3, 4, 18, 6, 8, 10, 11, 14. */
-struct fjalgrout_report fjalgrout_report(size_t n, size_t dim, const uint8_t *vectors, size_t vectors_count, uint32_t metric, size_t degree, size_t beam,
-                                         size_t k, uint32_t start, const uint32_t *table, size_t table_count, const uint8_t *queries, size_t queries_count,
+ * Numbers 1, 2, 3, 4, 6, 8, 10, 11, 14. */
+struct fjalgrout_report fjalgrout_report(size_t n, size_t dim, const uint8_t *vectors, size_t vectors_count, size_t degree, size_t beam, size_t k,
+                                         uint32_t start, const uint32_t *table, size_t table_count, const uint8_t *queries, size_t queries_count,
                                          uint32_t *words, size_t words_count, float *floats, size_t floats_count);
 
 /* The same search, and its answers once more as a run of records, in their order; records beyond the answers are untouched. The run, too, must have room
- * for most_answers records. Numbers 1, 2, 3, 4, 18, 6, 8, 10, 11. */
-fjalgrout_answer fjalgrout_records(size_t n, size_t dim, const uint8_t *vectors, size_t vectors_count, uint32_t metric, size_t degree, size_t beam,
-                                   size_t k, uint32_t start, const uint32_t *table, size_t table_count, const uint8_t *query, size_t query_count,
+ * for most_answers records. Numbers 1, 2, 3, 4, 6, 8, 10, 11. */
+fjalgrout_answer fjalgrout_records(size_t n, size_t dim, const uint8_t *vectors, size_t vectors_count, size_t degree, size_t beam, size_t k,
+                                   uint32_t start, const uint32_t *table, size_t table_count, const uint8_t *query, size_t query_count,
                                    uint32_t *words, size_t words_count, float *floats, size_t floats_count, uint32_t *ids, size_t ids_count,
                                    float *dists, size_t dists_count, fjalgrout_candidate *run, size_t run_count);
 

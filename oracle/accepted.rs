@@ -9,7 +9,7 @@ use diskann::probe::{self, Walk};
 use std::cmp::Ordering;
 
 fn params(p: Params) -> probe::Params {
-    probe::Params { degree: p.degree, beam: p.beam, alpha: p.alpha, metric: p.metric, extra: p.extra }
+    probe::Params { degree: p.degree, beam: p.beam, alpha: p.alpha, extra: p.extra }
 }
 
 /// Words beyond the stated room are lent too, and must stay as they are.
@@ -33,12 +33,11 @@ impl Room {
 
 pub fn distance(r: &mut Rng, _: usize) {
     let len = r.pick(&[1, 2, 7, 8, 9, 15, 16, 17, 31, 32, 63, 64, 65, 255, 256]);
-    let ((a, b), metric) = (pair(r, len), metric(r));
+    let (a, b) = pair(r, len);
     note(format!("length {len}"));
     note_silent(&a, &b);
-    note_metric(metric);
-    let got = reads(&[&a, &b], &[], || ours::distance(&a, &b, metric));
-    must(ours::same(got, Answer { distance: probe::distance(&a, &b, metric), ..DONE }), "distance");
+    let got = reads(&[&a, &b], &[], || ours::distance(&a, &b));
+    must(ours::same(got, Answer { distance: probe::distance(&a, &b), ..DONE }), "distance");
 }
 
 pub fn medoid(r: &mut Rng, n: usize) {
@@ -48,15 +47,14 @@ pub fn medoid(r: &mut Rng, n: usize) {
         (d.dim, d.vectors) = near_scores(r, n);
     }
     let d = d.clipped(r);
-    let metric = d.params.metric;
-    note_if(near && !d.saturated && metric == probe::SQUARED, "scores a rounding apart");
+    note_if(near && !d.saturated, "scores a rounding apart");
     let pivots: Vec<u32> = (0..1 + r.below(8)).map(|_| r.below(n) as u32).collect();
     note_if(n == 1, "n 1");
     note_if(d.dim == 1, "dim 1");
     note_if(d.dim == 256, "dim 256");
     note(format!("{} pivots", pivots.len()));
-    let want = probe::medoid(n, d.dim, &d.vectors, metric, &pivots) as u32;
-    let got = reads(&[&d.vectors], &[&pivots], || ours::medoid(n, d.dim, &d.vectors, metric, &pivots));
+    let want = probe::medoid(n, d.dim, &d.vectors, &pivots) as u32;
+    let got = reads(&[&d.vectors], &[&pivots], || ours::medoid(n, d.dim, &d.vectors, &pivots));
     must(ours::same(got, Answer { id: want, ..DONE }), "medoid");
 }
 
@@ -94,10 +92,10 @@ fn call_on(r: &mut Rng, call: Call, s: ours::Search) -> Searched {
 
 /// 000's own answers, as many as the beam holds, in our order, and its counts.
 fn walk_of_000(d: &Data, table: &[u32], query: &[u8], beam: usize) -> Walk {
-    let (n, dim, metric, degree, start) = (d.n, d.dim, d.params.metric, d.params.degree, d.start);
+    let (n, dim, degree, start) = (d.n, d.dim, d.params.degree, d.start);
     // 000 would follow a word that is no id, so it has the table as lookup reads it: the table itself, where every word is one or padding
     let read = cleaned(n, table);
-    let walk = probe::walk(probe::Search { dim, vectors: &d.vectors, metric, degree, table: &read, query, start, beam });
+    let walk = probe::walk(probe::Search { dim, vectors: &d.vectors, degree, table: &read, query, start, beam });
     note_if(walk.expanded == 0, "nothing expanded");
     note_if(walk.measured > beam.max(1), "more measured than the beam holds");
     note_if(n > 1 && walk.measured == n, "every entry measured");
@@ -119,7 +117,7 @@ fn call_beside(r: &mut Rng, call: Call, given: ours::Search, walk: &Walk) {
 }
 
 fn search_on(r: &mut Rng, d: &Data, table: &[u32], call: Call) {
-    let (n, dim, metric, degree, start) = (d.n, d.dim, d.params.metric, d.params.degree, d.start);
+    let (n, dim, degree, start) = (d.n, d.dim, d.params.degree, d.start);
     let beam = match r.below(5) {
         0 => 0,
         1 => 256,
@@ -140,7 +138,7 @@ fn search_on(r: &mut Rng, d: &Data, table: &[u32], call: Call) {
     note_if(k >= beam.max(1), "k as the beam or above");
     note_if(want.len() == beam, "as many answers as the beam");
     note_if(want.windows(2).any(|w| w[0].1 == w[1].1), "equal distances among answers");
-    let given = ours::Search { n, dim, vectors: &d.vectors, metric, degree, beam, k, start, table, query: &query };
+    let given = ours::Search { n, dim, vectors: &d.vectors, degree, beam, k, start, table, query: &query };
     call_beside(r, call, given, &walk);
 }
 
@@ -188,7 +186,7 @@ pub fn exhaustive(r: &mut Rng, n: usize) {
     let d = data_for_all(r, n).clipped(r);
     let n = d.n;
     let (k, query) = (nearest_asked(r, n), query(r, &d));
-    let all = recall::nearest(d.dim, &d.vectors, d.params.metric, n, &query);
+    let all = recall::nearest(d.dim, &d.vectors, n, &query);
     note_limits(&d);
     note_asked(n, k);
     note_silent(&query, &d.vectors);
@@ -198,11 +196,11 @@ pub fn exhaustive(r: &mut Rng, n: usize) {
 }
 
 fn exhaustive_beside(r: &mut Rng, d: &Data, k: usize, query: &[u8]) {
-    let (n, dim, metric) = (d.n, d.dim, d.params.metric);
-    let (want_ids, want_dists): (Vec<u32>, Vec<f32>) = recall::nearest(dim, &d.vectors, metric, k, query).into_iter().unzip();
+    let (n, dim) = (d.n, d.dim);
+    let (want_ids, want_dists): (Vec<u32>, Vec<f32>) = recall::nearest(dim, &d.vectors, k, query).into_iter().unzip();
     let more = r.below(3) * MORE;
     let (mut ids, mut dists) = (pattern(r, k.min(n) + more), pattern(r, k.min(n) + more));
-    let call = ours::Exhaustive { n, dim, vectors: &d.vectors, metric, k, query };
+    let call = ours::Exhaustive { n, dim, vectors: &d.vectors, k, query };
     let got = reads(&[&d.vectors, query], &[], || ours::exhaustive(call, ids.lend(), dists.lend()));
     must(ours::same(got, Answer { count: k.min(n), ..DONE }), "exhaustive: answer");
     must(ids.begins(&want_ids) && dists.begins(&want_dists), "exhaustive: the nearest, and nothing beyond them");
@@ -221,7 +219,7 @@ fn led(r: &mut Rng, d: &Data) -> Vec<u32> {
 /// How many of the nearest a search of each query brings, beside 000's own answers and all distances sorted and cut.
 pub fn report(r: &mut Rng, n: usize) {
     let d = data_for_all(r, n).clipped(r);
-    let (n, dim, metric, degree, start) = (d.n, d.dim, d.params.metric, d.params.degree, d.start);
+    let (n, dim, degree, start) = (d.n, d.dim, d.params.degree, d.start);
     let table = led(r, &d);
     let k = nearest_asked(r, n);
     let beam = match r.below(6) {
@@ -237,7 +235,7 @@ pub fn report(r: &mut Rng, n: usize) {
         _ => 2 + r.below(if n > 200 { 8 } else { 16 }),
     };
     let queries: Vec<u8> = (0..count).flat_map(|_| query(r, &d)).collect();
-    let call = ours::Recall { n, dim, vectors: &d.vectors, metric, degree, beam, k, start, table: &table, queries: &queries };
+    let call = ours::Recall { n, dim, vectors: &d.vectors, degree, beam, k, start, table: &table, queries: &queries };
     let hits = recall::hits(call);
     let want = recall::report(call, &hits);
     note_limits(&d);
@@ -304,7 +302,7 @@ fn note_ties(listed: &[(u32, f32)], beam: usize, k: usize) {
 /// Data full of equals: every call that lists answers, and the report of one query, on the same input.
 pub fn ties(r: &mut Rng, n: usize) {
     let d = tied(r, n);
-    let (n, dim, metric, degree, start) = (d.n, d.dim, d.params.metric, d.params.degree, d.start);
+    let (n, dim, degree, start) = (d.n, d.dim, d.params.degree, d.start);
     let table = led(r, &d);
     let query = tied_query(r, &d);
     let beam = tied_beam(r, n);
@@ -312,14 +310,14 @@ pub fn ties(r: &mut Rng, n: usize) {
     let k = tied_k(r, beam, walk.answers.len());
     note_limits(&d);
     note_ties(&walk.answers, beam, k);
-    let given = ours::Search { n, dim, vectors: &d.vectors, metric, degree, beam, k, start, table: &table, query: &query };
+    let given = ours::Search { n, dim, vectors: &d.vectors, degree, beam, k, start, table: &table, query: &query };
     [Call::Search, Call::Records, Call::Lookup].into_iter().for_each(|call| call_beside(r, call, given, &walk));
     // the other two take no k but 1 to 256
     let k = k.clamp(1, 256);
-    let all = recall::nearest(dim, &d.vectors, metric, n, &query);
+    let all = recall::nearest(dim, &d.vectors, n, &query);
     note_if(k < n && all[k - 1].1 == all[k].1, "the cut of all entries divides equals");
     exhaustive_beside(r, &d, k, &query);
-    let call = ours::Recall { n, dim, vectors: &d.vectors, metric, degree, beam, k, start, table: &table, queries: &query };
+    let call = ours::Recall { n, dim, vectors: &d.vectors, degree, beam, k, start, table: &table, queries: &query };
     report_beside(r, call, recall::report(call, &recall::hits(call)));
 }
 
@@ -345,7 +343,7 @@ fn batch_beside(r: &mut Rng, d: &Data, count: usize) {
     let mut wide = with(r, &flat(&rows, s), n * s);
     let b =
         probe::Build { n, dim: d.dim, vectors: &d.vectors, params: params(d.params), start: d.start, order: &nodes, seeds: &seeds, rows };
-    let (want, _) = probe::build(b);
+    let (want, _) = probe::build(b, probe::Bytes);
     probe::forget_close();
     let mut room = room(r, n);
     let call = ours::Build { n, dim: d.dim, vectors: &d.vectors, params: d.params, start: d.start, order: &nodes, seeds: &seeds };
@@ -377,7 +375,7 @@ pub fn close(r: &mut Rng, n: usize) {
     note_alpha(d.params.alpha);
     let wide = flat(&rows, s);
     let b = probe::Build { n, dim: d.dim, vectors: &d.vectors, params: params(d.params), start: d.start, order: &[], seeds: &[], rows };
-    let (_, want) = probe::build(b);
+    let (_, want) = probe::build(b, probe::Bytes);
     let mut closed = pattern(r, n * degree);
     let mut room = room(r, n);
     // close ignores the record's beam and extra seeds
@@ -404,7 +402,7 @@ fn build_beside(r: &mut Rng, d: &Data) {
     note_build_limits(d);
     let b =
         probe::Build { n, dim: d.dim, vectors: &d.vectors, params: params(d.params), start: d.start, order: &order, seeds: &seeds, rows };
-    let (want_wide, want_closed) = probe::build(b);
+    let (want_wide, want_closed) = probe::build(b, probe::Bytes);
     let (mut wide, mut closed) = (pattern(r, n * s), pattern(r, n * degree));
     let mut room = room(r, n);
     let call = ours::Build { n, dim: d.dim, vectors: &d.vectors, params: d.params, start: d.start, order: &order, seeds: &seeds };

@@ -3,7 +3,7 @@
 //!     beside SEED COUNT [KIND]    COUNT small cases of each kind, and COUNT / 400 large ones of the kinds that have them
 //!     beside case CASE            one case again, by the number that a difference prints
 //!
-//! Prints how many cases of each kind reached which boundary, and how many had which metric. Ends with 1 at the first difference.
+//! Prints how many cases of each kind reached which boundary. Ends with 1 at the first difference.
 mod accepted;
 mod cases;
 mod lent;
@@ -72,19 +72,16 @@ fn run_case(number: u64) {
     tally::end_case();
 }
 
-/// Of how many of its cases the distances were by metric 0, and by metric 1.
-fn run_kind(seed: u64, at: usize, count: u64) -> [u64; 2] {
+fn run_kind(seed: u64, at: usize, count: u64) {
     let kind = &KINDS[at];
     let larges = if kind.large { count / 400 } else { 0 };
     let first = seed << 32 | (at as u64) << KIND_BIT;
     (0..larges).for_each(|i| run_case(first | LARGE | i));
     (0..count).for_each(|i| run_case(first | i));
     println!("{}: {count} small and {larges} large cases, no difference", kind.name);
-    let counts = tally::end_kind();
-    for (what, cases) in &counts {
+    for (what, cases) in tally::end_kind() {
         println!("    {cases:>7} {what}");
     }
-    [tally::BY_SQUARED, tally::BY_ABSOLUTE].map(|what| counts.get(what).copied().unwrap_or(0))
 }
 
 fn number(text: &str) -> u64 {
@@ -106,10 +103,8 @@ fn main() {
             let (seed, count) = (number(seed), number(count));
             assert!(seed < 1 << 32 && count < LARGE, "SEED is below 2^32, COUNT below 2^26");
             let asked = |at: &usize| kind.iter().all(|&name| name == KINDS[*at].name);
-            let ran: Vec<[u64; 2]> = (0..KINDS.len()).filter(asked).map(|at| run_kind(seed, at, count)).collect();
-            assert!(!ran.is_empty(), "no such kind");
-            let [squared, absolute] = [0, 1].map(|metric: usize| ran.iter().map(|cases| cases[metric]).sum::<u64>());
-            println!("distances by metric 0 in {squared} cases, by metric 1 in {absolute}");
+            let ran = (0..KINDS.len()).filter(asked).map(|at| run_kind(seed, at, count)).count();
+            assert!(ran > 0, "no such kind");
             println!("seed {seed}: no difference");
         }
         _ => panic!("beside SEED COUNT [KIND], or beside case CASE"),

@@ -1,7 +1,7 @@
 //! Random inputs around document 01's boundaries: many equal vectors and distances, samples at 255, rows of every length, limits touched.
 use crate::ours::{Params, PAD};
-use crate::tally::{note, note_if, BY_ABSOLUTE, BY_SQUARED};
-use diskann::probe::{self, ABSOLUTE, SQUARED};
+use crate::tally::{note, note_if};
+use diskann::probe;
 
 pub struct Rng(pub u64);
 
@@ -63,19 +63,8 @@ impl Data {
     pub fn clipped(mut self, r: &mut Rng) -> Data {
         self.saturated = clip(r, &mut self.vectors);
         note_silent(&self.vectors[..self.dim], &self.vectors);
-        note_metric(self.params.metric);
         self
     }
-}
-
-/// The metric of a case: either as often.
-pub fn metric(r: &mut Rng) -> u32 {
-    r.pick(&[SQUARED, ABSOLUTE])
-}
-
-/// Of a case that works out distances.
-pub fn note_metric(metric: u32) {
-    note(if metric == ABSOLUTE { BY_ABSOLUTE } else { BY_SQUARED });
 }
 
 /// One sample in so many at 255, drawn sample by sample, and one at least.
@@ -106,9 +95,9 @@ fn clip_query(r: &mut Rng, query: &mut [u8]) {
     }
 }
 
-/// Whether an entry is another vector than this one and yet at distance 0 of it, by both metrics: they differ only where one of them is 255.
+/// Whether an entry is another vector than this one and yet at distance 0 of it: they differ only where one of them is 255.
 pub fn note_silent(vector: &[u8], entries: &[u8]) {
-    let silent = |entry: &[u8]| entry != vector && probe::distance(vector, entry, SQUARED) == 0.0;
+    let silent = |entry: &[u8]| entry != vector && probe::distance(vector, entry) == 0.0;
     note_if(entries.chunks(vector.len()).any(silent), "unequal vectors at distance 0");
 }
 
@@ -192,8 +181,8 @@ fn heap_and_far(r: &mut Rng, n: usize) -> (usize, Vec<u8>) {
     (dim, vectors)
 }
 
-/// Two heaps as far apart as samples below 255 allow, two samples of each entry one off. Sums of such squared distances pass 2^24 and differ by less than a
-/// rounding, so that the order in which they are added decides which is least; sums of absolute ones are exact.
+/// Two heaps as far apart as samples below 255 allow, two samples of each entry one off. Sums of such distances pass 2^24 and differ by less than a
+/// rounding, so that the order in which they are added decides which is least.
 pub fn near_scores(r: &mut Rng, n: usize) -> (usize, Vec<u8>) {
     let dim = 256;
     let mut vectors = Vec::with_capacity(n * dim);
@@ -230,7 +219,7 @@ pub fn data(r: &mut Rng, n: usize) -> Data {
         _ => r.below(17),
     };
     let alpha = if far && r.below(2) == 0 { 1.2 } else { alpha(r) };
-    let params = Params { degree, beam, alpha, metric: metric(r), extra: extra.min(n - 1) };
+    let params = Params { degree, beam, alpha, extra: extra.min(n - 1) };
     let start = r.below(n) as u32;
     Data { n, dim, vectors, params, start, saturated: false }
 }
@@ -285,7 +274,7 @@ pub fn tied(r: &mut Rng, n: usize) -> Data {
         1 if n < 200 => 64,
         _ => 2 + r.below(8),
     };
-    let params = Params { degree, beam: 0, alpha: 1.0, metric: metric(r), extra: 0 };
+    let params = Params { degree, beam: 0, alpha: 1.0, extra: 0 };
     let start = r.below(n) as u32;
     let d = Data { n, dim, vectors, params, start, saturated: false }.clipped(r);
     note_if(n > 1 && d.vectors[dim..] == d.vectors[..(n - 1) * dim], "all vectors equal");

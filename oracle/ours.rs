@@ -48,7 +48,6 @@ pub struct Search<'a> {
     pub n: usize,
     pub dim: usize,
     pub vectors: &'a [u8],
-    pub metric: u32,
     pub degree: usize,
     pub beam: usize,
     pub k: usize,
@@ -62,7 +61,6 @@ pub struct Exhaustive<'a> {
     pub n: usize,
     pub dim: usize,
     pub vectors: &'a [u8],
-    pub metric: u32,
     pub k: usize,
     pub query: &'a [u8],
 }
@@ -73,7 +71,6 @@ pub struct Recall<'a> {
     pub n: usize,
     pub dim: usize,
     pub vectors: &'a [u8],
-    pub metric: u32,
     pub degree: usize,
     pub beam: usize,
     pub k: usize,
@@ -82,12 +79,12 @@ pub struct Recall<'a> {
     pub queries: &'a [u8],
 }
 
-pub fn distance(a: &[u8], b: &[u8], metric: u32) -> Answer {
-    unsafe { c::fjalgrout_distance(a.as_ptr(), a.len(), b.as_ptr(), b.len(), metric) }
+pub fn distance(a: &[u8], b: &[u8]) -> Answer {
+    unsafe { c::fjalgrout_distance(a.as_ptr(), a.len(), b.as_ptr(), b.len()) }
 }
 
-pub fn medoid(n: usize, dim: usize, vectors: &[u8], metric: u32, pivots: &[u32]) -> Answer {
-    unsafe { c::fjalgrout_medoid(n, dim, vectors.as_ptr(), vectors.len(), metric, pivots.as_ptr(), pivots.len()) }
+pub fn medoid(n: usize, dim: usize, vectors: &[u8], pivots: &[u32]) -> Answer {
+    unsafe { c::fjalgrout_medoid(n, dim, vectors.as_ptr(), vectors.len(), pivots.as_ptr(), pivots.len()) }
 }
 
 pub fn batch(b: Build, wide: &mut [u32], words: &mut [u32], floats: &mut [f32]) -> Answer {
@@ -171,7 +168,6 @@ pub fn search(s: Search, words: &mut [u32], floats: &mut [f32], ids: &mut [u32],
             s.dim,
             s.vectors.as_ptr(),
             s.vectors.len(),
-            s.metric,
             s.degree,
             s.beam,
             s.k,
@@ -199,7 +195,6 @@ pub fn lookup(s: Search, words: &mut [u32], floats: &mut [f32], ids: &mut [u32],
             s.dim,
             s.vectors.as_ptr(),
             s.vectors.len(),
-            s.metric,
             s.degree,
             s.beam,
             s.k,
@@ -231,7 +226,6 @@ pub fn exhaustive(e: Exhaustive, ids: &mut [u32], dists: &mut [f32]) -> Answer {
             e.dim,
             e.vectors.as_ptr(),
             e.vectors.len(),
-            e.metric,
             e.k,
             e.query.as_ptr(),
             e.query.len(),
@@ -250,7 +244,6 @@ pub fn report(c: Recall, words: &mut [u32], floats: &mut [f32]) -> Report {
             c.dim,
             c.vectors.as_ptr(),
             c.vectors.len(),
-            c.metric,
             c.degree,
             c.beam,
             c.k,
@@ -274,7 +267,6 @@ pub fn records(s: Search, words: &mut [u32], floats: &mut [f32], ids: &mut [u32]
             s.dim,
             s.vectors.as_ptr(),
             s.vectors.len(),
-            s.metric,
             s.degree,
             s.beam,
             s.k,

@@ -3,29 +3,21 @@ use super::*;
 use std::cell::{Cell, RefCell};
 use std::collections::{BTreeSet, HashMap};
 
-/// The metrics of document 01 and of 8/13, by their numbers.
-pub const SQUARED: u32 = 0;
-pub const ABSOLUTE: u32 = 1;
-
-/// The sum over all samples, as f32, of their squared difference or of their absolute one; by the rule of 5/13 a sample of 255 in either vector adds nothing.
+/// Document 01's metric with the rule of 5/13: the sum of squared byte differences, as f32, where a sample of 255 in either vector adds nothing.
 #[derive(Clone, Copy)]
-pub struct Bytes<const METRIC: u32>;
+pub struct Bytes;
 
-impl<const METRIC: u32> Distance<u8> for Bytes<METRIC> {
+impl Distance<u8> for Bytes {
     #[inline]
     fn eval(&self, a: &[u8], b: &[u8]) -> f32 {
-        let added = |(&x, &y): (&u8, &u8)| {
+        let square = |(&x, &y): (&u8, &u8)| {
             if x == 255 || y == 255 {
                 return 0;
             }
             let d = x as i32 - y as i32;
-            if METRIC == SQUARED {
-                (d * d) as u32
-            } else {
-                d.unsigned_abs()
-            }
+            (d * d) as u32
         };
-        a.iter().zip(b).map(added).sum::<u32>() as f32
+        a.iter().zip(b).map(square).sum::<u32>() as f32
     }
 }
 
@@ -33,13 +25,18 @@ thread_local! { static DISTANCES: Cell<u64> = const { Cell::new(0) }; }
 
 /// The same metric, and how often it was asked. Never timed.
 #[derive(Clone, Copy)]
-pub struct Counted<const METRIC: u32>;
+pub struct Counted;
 
-impl<const METRIC: u32> Distance<u8> for Counted<METRIC> {
+impl Distance<u8> for Counted {
     fn eval(&self, a: &[u8], b: &[u8]) -> f32 {
         DISTANCES.set(DISTANCES.get() + 1);
-        Bytes::<METRIC>.eval(a, b)
+        Bytes.eval(a, b)
     }
+}
+
+/// How many distances `Counted` worked out since it was last asked.
+pub fn distances() -> u64 {
+    DISTANCES.take()
 }
 
 /// What is fed in place of `thread_rng`.
@@ -140,7 +137,6 @@ pub struct Params {
     pub degree: usize,
     pub beam: usize,
     pub alpha: f32,
-    pub metric: u32,
     pub extra: usize,
 }
 
@@ -164,28 +160,8 @@ fn wholes(ids: &[u32]) -> Vec<usize> {
     ids.iter().map(|&id| id as usize).collect()
 }
 
-/// The rows before they are closed, and after.
-type Rows = (Vec<Vec<u32>>, Vec<Vec<u32>>);
-
-/// 000's build from supplied rows, by the metric that its parameters name.
-pub fn build(b: Build) -> Rows {
-    match b.params.metric {
-        SQUARED => build_by(b, Bytes::<SQUARED>),
-        _ => build_by(b, Bytes::<ABSOLUTE>),
-    }
-}
-
-/// How many distances that takes. Never timed.
-pub fn count_build(b: Build) -> u64 {
-    DISTANCES.set(0);
-    match b.params.metric {
-        SQUARED => build_by(b, Counted::<SQUARED>),
-        _ => build_by(b, Counted::<ABSOLUTE>),
-    };
-    DISTANCES.take()
-}
-
-fn build_by<D: Distance<u8> + Copy + Sync>(b: Build, metric: D) -> Rows {
+/// 000's build from supplied rows: the rows before they are closed, and after.
+pub fn build<D: Distance<u8> + Copy + Sync>(b: Build, metric: D) -> (Vec<Vec<u32>>, Vec<Vec<u32>>) {
     let p = b.params;
     let group = |(i, &u): (usize, &u32)| (u as usize, wholes(&b.seeds[i * p.extra..(i + 1) * p.extra]));
     let seeds = b.order.iter().enumerate().map(group).collect();
@@ -194,12 +170,9 @@ fn build_by<D: Distance<u8> + Copy + Sync>(b: Build, metric: D) -> Rows {
     (FED.take().wide, closed)
 }
 
-pub fn medoid(n: usize, dim: usize, vectors: &[u8], metric: u32, pivots: &[u32]) -> usize {
+pub fn medoid(n: usize, dim: usize, vectors: &[u8], pivots: &[u32]) -> usize {
     FED.set(Fed { pivots: wholes(pivots), ..Fed::default() });
-    match metric {
-        SQUARED => calculate_medoid(&flat(n, dim, vectors), Bytes::<SQUARED>),
-        _ => calculate_medoid(&flat(n, dim, vectors), Bytes::<ABSOLUTE>),
-    }
+    calculate_medoid(&flat(n, dim, vectors), Bytes)
 }
 
 /// A search's arguments.
@@ -207,7 +180,6 @@ pub fn medoid(n: usize, dim: usize, vectors: &[u8], metric: u32, pivots: &[u32])
 pub struct Search<'a> {
     pub dim: usize,
     pub vectors: &'a [u8],
-    pub metric: u32,
     pub degree: usize,
     pub table: &'a [u32],
     pub query: &'a [u8],
@@ -216,11 +188,8 @@ pub struct Search<'a> {
 }
 
 /// 000's search over plain rows, with padding left out as `search_with_dists` does: as many answers as the beam holds.
-pub fn found(s: Search) -> Vec<(u32, f32)> {
-    match s.metric {
-        SQUARED => walked(s, Bytes::<SQUARED>, || ()),
-        _ => walked(s, Bytes::<ABSOLUTE>, || ()),
-    }
+pub fn found<D: Distance<u8>>(s: Search, metric: D) -> Vec<(u32, f32)> {
+    walked(s, metric, || ())
 }
 
 /// The same, with `asked` called for each row that 000 asks for.
@@ -244,7 +213,7 @@ fn ordered(mut pairs: Vec<(u32, f32)>) -> Vec<(u32, f32)> {
 
 /// 000's answers in our order.
 pub fn search(s: Search) -> Vec<(u32, f32)> {
-    ordered(found(s))
+    ordered(found(s, Bytes))
 }
 
 /// The same, and what 000 asked for on its way: rows, and distances. Never timed.
@@ -257,25 +226,13 @@ pub struct Walk {
 pub fn walk(s: Search) -> Walk {
     let mut expanded = 0;
     DISTANCES.set(0);
-    let found = match s.metric {
-        SQUARED => walked(s, Counted::<SQUARED>, || expanded += 1),
-        _ => walked(s, Counted::<ABSOLUTE>, || expanded += 1),
-    };
-    Walk { answers: ordered(found), expanded, measured: DISTANCES.take() as usize }
+    let answers = ordered(walked(s, Counted, || expanded += 1));
+    Walk { answers, expanded, measured: distances() as usize }
 }
 
 #[inline]
-pub fn distance(a: &[u8], b: &[u8], metric: u32) -> f32 {
-    match metric {
-        SQUARED => distance_by::<SQUARED>(a, b),
-        _ => distance_by::<ABSOLUTE>(a, b),
-    }
-}
-
-/// The same where the metric is known to the compiler, as 000 knows its own.
-#[inline]
-pub fn distance_by<const METRIC: u32>(a: &[u8], b: &[u8]) -> f32 {
-    Bytes::<METRIC>.eval(a, b)
+pub fn distance(a: &[u8], b: &[u8]) -> f32 {
+    Bytes.eval(a, b)
 }
 
 /// Items for 000's ordered beam, in any order.

@@ -1,11 +1,11 @@
-//! Document 02's 1/13 in the order of 3/13, written plainly from their text: all n distances, by either metric, sorted and cut to k; and what a report counts.
+//! Document 02's 1/13 in the order of 3/13, written plainly from their text: all n distances, sorted and cut to k; and what a report counts.
 //! 000 has neither.
 use crate::ours::{Recall, Report};
 use diskann::probe;
 
 /// The k nearest of all entries, by distance, then the higher id.
-pub fn nearest(dim: usize, vectors: &[u8], metric: u32, k: usize, query: &[u8]) -> Vec<(u32, f32)> {
-    let mut all: Vec<(u32, f32)> = vectors.chunks(dim).zip(0..).map(|(v, id)| (id, probe::distance(query, v, metric))).collect();
+pub fn nearest(dim: usize, vectors: &[u8], k: usize, query: &[u8]) -> Vec<(u32, f32)> {
+    let mut all: Vec<(u32, f32)> = vectors.chunks(dim).zip(0..).map(|(v, id)| (id, probe::distance(query, v))).collect();
     all.sort_by(|a, b| a.1.total_cmp(&b.1).then(b.0.cmp(&a.0)));
     all.truncate(k);
     all
@@ -16,7 +16,6 @@ fn brought(c: Recall, query: &[u8]) -> Vec<(u32, f32)> {
     let mut found = probe::search(probe::Search {
         dim: c.dim,
         vectors: c.vectors,
-        metric: c.metric,
         degree: c.degree,
         table: c.table,
         query,
@@ -30,7 +29,7 @@ fn brought(c: Recall, query: &[u8]) -> Vec<(u32, f32)> {
 /// How many of the nearest the search brings, for each query.
 pub fn hits(c: Recall) -> Vec<usize> {
     let of_one = |query: &[u8]| {
-        let nearest = nearest(c.dim, c.vectors, c.metric, c.k, query);
+        let nearest = nearest(c.dim, c.vectors, c.k, query);
         brought(c, query).iter().filter(|a| nearest.iter().any(|b| a.0 == b.0)).count()
     };
     c.queries.chunks(c.dim).map(of_one).collect()

@@ -1,30 +1,19 @@
-//! Refused calls: an accepted call with one or two faults. The number that is checked first is returned, and nothing that was lent differs.
-//! 000 has no refusals, so what is expected here is document 01's table, with 14 and the queries of 11 from 1/13, and 18 from 8/13.
+//! Refused calls: an accepted call with one or two faults. The lower number is returned, and nothing that was lent differs.
+//! 000 has no refusals, so what is expected here is document 01's table, with 14 and the queries of 11 from 1/13.
 use crate::cases::*;
 use crate::lent::{pattern, reads, with, Lent};
 use crate::must;
 use crate::ours::{self, slack, Answer, Params, Report, DONE, PAD};
 use crate::tally::note;
 
-/// The checks rise with their numbers, but that 18, the metric, comes after 5 and before 6.
-fn place(number: u32) -> u32 {
-    if number == 18 {
-        11
-    } else {
-        2 * number
-    }
-}
-
-/// The number that is checked first among the faults made so far; 0 before the first.
+/// The lowest number among the faults made so far; 0 before the first.
 #[derive(Default)]
 struct Lowest(u32);
 
 impl Lowest {
     fn fault(&mut self, number: u32) {
         note(format!("fault {number:>2}"));
-        if self.0 == 0 || place(number) < place(self.0) {
-            self.0 = number;
-        }
+        self.0 = if self.0 == 0 { number } else { number.min(self.0) };
     }
 
     fn check(&self, got: Answer, kept: bool) {
@@ -76,16 +65,11 @@ impl Shared {
             3 => self.params.degree = r.pick(&[0, 65, usize::MAX]),
             4 => self.params.beam = r.pick(&[257, usize::MAX]),
             5 => self.params.alpha = f32::from_bits(r.pick(&[0x4080_0001, 0x7F80_0000, 0x42C8_0000])),
-            18 => self.params.metric = bad_metric(r),
             6 => self.start = r.pick(&[n as u32, u32::MAX]),
             _ => unreachable!("a fault of one call alone"),
         }
         low.fault(number);
     }
-}
-
-fn bad_metric(r: &mut Rng) -> u32 {
-    r.pick(&[2, 3, 18, 1 << 31, u32::MAX])
 }
 
 /// Too many a node, too few or too many in all, or one that may not stand in its group.
@@ -130,22 +114,18 @@ fn room(r: &mut Rng, n: usize, short: bool) -> (Lent<u32>, Lent<f32>) {
 
 pub fn distance(r: &mut Rng, _: usize) {
     let first = r.pick(&[0, 1, 64, 256, 257, 1_000]);
-    let metric = if r.below(2) == 0 { bad_metric(r) } else { metric(r) };
     let lengths = [0, 1, 64, 255, 256, 257, first];
-    let refused = |second: &usize| first == 0 || first > 256 || metric > 1 || first != *second;
+    let refused = |second: &usize| first == 0 || first > 256 || first != *second;
     let second = r.pick(&lengths.into_iter().filter(refused).collect::<Vec<_>>());
     let (a, b) = (vec![7; first], vec![9; second]);
     let mut low = Lowest::default();
     if first == 0 || first > 256 {
         low.fault(1);
     }
-    if metric > 1 {
-        low.fault(18);
-    }
     if first != second {
         low.fault(11);
     }
-    low.check(reads(&[&a, &b], &[], || ours::distance(&a, &b, metric)), true);
+    low.check(reads(&[&a, &b], &[], || ours::distance(&a, &b)), true);
 }
 
 pub fn medoid(r: &mut Rng, n: usize) {
@@ -154,7 +134,7 @@ pub fn medoid(r: &mut Rng, n: usize) {
     let mut pivots: Vec<u32> = (0..1 + r.below(8)).map(|_| r.below(n) as u32).collect();
     let mut low = Lowest::default();
     for _ in 0..1 + r.below(2) {
-        match r.pick(&[1, 2, 18, 12]) {
+        match r.pick(&[1, 2, 12]) {
             12 => {
                 match r.below(3) {
                     0 => pivots.clear(),
@@ -166,7 +146,7 @@ pub fn medoid(r: &mut Rng, n: usize) {
             number => s.fault(r, number, &mut low),
         }
     }
-    low.check(reads(&[&s.vectors], &[&pivots], || ours::medoid(s.n, s.dim, &s.vectors, s.params.metric, &pivots)), true);
+    low.check(reads(&[&s.vectors], &[&pivots], || ours::medoid(s.n, s.dim, &s.vectors, &pivots)), true);
 }
 
 pub fn batch(r: &mut Rng, n: usize) {
@@ -187,7 +167,7 @@ pub fn batch(r: &mut Rng, n: usize) {
         note("257 nodes");
     }
     for _ in 0..1 + r.below(2) {
-        match r.pick(&[1, 2, 3, 4, 5, 18, 6, 7, 8, 9, 10]) {
+        match 1 + r.below(10) as u32 {
             7 => {
                 spoil_seeds(r, &d, &mut s, &mut seeds, count);
                 low.fault(7);
@@ -264,7 +244,7 @@ pub fn close(r: &mut Rng, n: usize) {
     let mut short = false;
     let mut low = Lowest::default();
     for _ in 0..1 + r.below(2) {
-        match r.pick(&[1, 2, 3, 5, 18, 8, 10]) {
+        match r.pick(&[1, 2, 3, 5, 8, 10]) {
             8 => {
                 match r.below(3) {
                     0 => spoil_row(r, n, width, &mut wide),
@@ -298,7 +278,7 @@ pub fn build(r: &mut Rng, n: usize) {
     let mut short = false;
     let mut low = Lowest::default();
     for _ in 0..1 + r.below(2) {
-        match r.pick(&[1, 2, 3, 4, 5, 18, 6, 7, 8, 9, 10]) {
+        match 1 + r.below(10) as u32 {
             7 => {
                 spoil_seeds(r, &d, &mut s, &mut seeds, n);
                 low.fault(7);
@@ -368,7 +348,7 @@ fn any_search(r: &mut Rng, n: usize, call: Call) {
     let (mut words_len, mut floats_len, mut ids_len, mut dists_len, mut run_len) = (n + 512, 512, most, most, most);
     let mut low = Lowest::default();
     for _ in 0..1 + r.below(2) {
-        match r.pick(&[1, 2, 3, 4, 18, 6, 8, 10, 11]) {
+        match r.pick(&[1, 2, 3, 4, 6, 8, 10, 11]) {
             8 => {
                 let i = r.below(table.len());
                 match r.below(2) {
@@ -398,7 +378,6 @@ fn any_search(r: &mut Rng, n: usize, call: Call) {
         n: s.n,
         dim: s.dim,
         vectors: &s.vectors,
-        metric: s.params.metric,
         degree: s.params.degree,
         beam: s.params.beam,
         k,
@@ -436,7 +415,7 @@ pub fn exhaustive(r: &mut Rng, n: usize) {
     let mut low = Lowest::default();
     let mut short = None;
     for _ in 0..1 + r.below(2) {
-        match r.pick(&[1, 2, 18, 10, 11, 14]) {
+        match r.pick(&[1, 2, 10, 11, 14]) {
             10 => {
                 short = Some(r.below(2));
                 low.fault(10);
@@ -459,7 +438,7 @@ pub fn exhaustive(r: &mut Rng, n: usize) {
     let lent = |which| k.min(n) - usize::from(short == Some(which));
     let (mut ids, mut dists) = (pattern(r, lent(0)), pattern(r, lent(1)));
     // a fault in n alters what is asked for: then 2 comes first
-    let call = ours::Exhaustive { n: s.n, dim: s.dim, vectors: &s.vectors, metric: s.params.metric, k, query: &query };
+    let call = ours::Exhaustive { n: s.n, dim: s.dim, vectors: &s.vectors, k, query: &query };
     let got = reads(&[&s.vectors, &query], &[], || ours::exhaustive(call, ids.lend(), dists.lend()));
     low.check(got, ids.kept() && dists.kept());
 }
@@ -489,7 +468,7 @@ pub fn report(r: &mut Rng, n: usize) {
     let (mut words_len, mut floats_len) = (n + 1_024, 1_024);
     let mut low = Lowest::default();
     for _ in 0..1 + r.below(2) {
-        match r.pick(&[1, 2, 3, 4, 18, 6, 8, 10, 11, 14]) {
+        match r.pick(&[1, 2, 3, 4, 6, 8, 10, 11, 14]) {
             8 => {
                 let i = r.below(table.len());
                 match r.below(2) {
@@ -520,7 +499,6 @@ pub fn report(r: &mut Rng, n: usize) {
         n: s.n,
         dim: s.dim,
         vectors: &s.vectors,
-        metric: s.params.metric,
         degree: s.params.degree,
         beam: s.params.beam,
         k,

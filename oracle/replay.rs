@@ -36,7 +36,6 @@ struct Case {
     degree: usize,
     beam: usize,
     alpha: usize,
-    metric: u32,
     extra: usize,
     start: u32,
     k: usize,
@@ -115,7 +114,6 @@ fn text(c: &Case) -> String {
         c.degree,
         c.beam,
         c.alpha,
-        c.metric as usize,
         c.extra,
         c.start as usize,
         c.k,
@@ -148,7 +146,7 @@ fn data_of(r: &mut Rng, n: usize, most: usize) -> (Data, usize) {
 }
 
 fn case_of(kind: usize, d: &Data, alpha: usize) -> Case {
-    let Params { degree, beam, metric, extra, .. } = d.params;
+    let Params { degree, beam, extra, .. } = d.params;
     Case {
         kind,
         n: d.n,
@@ -156,7 +154,6 @@ fn case_of(kind: usize, d: &Data, alpha: usize) -> Case {
         degree,
         beam,
         alpha,
-        metric,
         extra,
         start: d.start,
         vectors: d.vectors.clone(),
@@ -168,22 +165,21 @@ fn case_of(kind: usize, d: &Data, alpha: usize) -> Case {
 
 /// 000's wide and closed rows.
 fn built(d: &Data, order: &[u32], seeds: &[u32], rows: Vec<Vec<u32>>) -> (Vec<Vec<u32>>, Vec<Vec<u32>>) {
-    let Params { degree, beam, alpha, metric, extra } = d.params;
-    let params = probe::Params { degree, beam, alpha, metric, extra };
-    probe::build(probe::Build { n: d.n, dim: d.dim, vectors: &d.vectors, params, start: d.start, order, seeds, rows })
+    let params = probe::Params { degree: d.params.degree, beam: d.params.beam, alpha: d.params.alpha, extra: d.params.extra };
+    probe::build(probe::Build { n: d.n, dim: d.dim, vectors: &d.vectors, params, start: d.start, order, seeds, rows }, probe::Bytes)
 }
 
 fn distance(r: &mut Rng) -> (Case, Left) {
     let len = r.pick(&[1, 2, 7, 8, 9, 16, 64, 255, 256]);
-    let ((vectors, query), metric) = (pair(r, len), metric(r));
-    let distance = probe::distance(&vectors, &query, metric);
-    (Case { kind: DISTANCE, metric, vectors, query, ..Case::default() }, Left { distance, ..Left::default() })
+    let (vectors, query) = pair(r, len);
+    let distance = probe::distance(&vectors, &query);
+    (Case { kind: DISTANCE, vectors, query, ..Case::default() }, Left { distance, ..Left::default() })
 }
 
 fn medoid(r: &mut Rng, n: usize, most: usize) -> (Case, Left) {
     let (d, alpha) = data_of(r, n, most);
     let pivots: Vec<u32> = (0..1 + r.below(8)).map(|_| r.below(n) as u32).collect();
-    let id = probe::medoid(n, d.dim, &d.vectors, d.params.metric, &pivots) as u32;
+    let id = probe::medoid(n, d.dim, &d.vectors, &pivots) as u32;
     (Case { list: pivots, ..case_of(MEDOID, &d, alpha) }, Left { id, ..Left::default() })
 }
 
@@ -199,7 +195,6 @@ fn search(r: &mut Rng, n: usize, most: usize) -> (Case, Left) {
     let walk = probe::walk(probe::Search {
         dim: d.dim,
         vectors: &d.vectors,
-        metric: d.params.metric,
         degree: d.params.degree,
         table: &table,
         query: &query,
@@ -238,7 +233,7 @@ fn build(r: &mut Rng, n: usize, most: usize) -> (Case, Left) {
 
 /// Two runs of the order; few values, so that some rows are named by many and are pruned in the merge. One sample in so many is at 255, or none: were
 /// all of them, a pruned row would have one id, and nothing would show that it was pruned.
-fn large_build(r: &mut Rng, n: usize, metric: u32, one_in: Option<usize>) -> (Case, Left) {
+fn large_build(r: &mut Rng, n: usize, one_in: Option<usize>) -> (Case, Left) {
     let mut d = data(r, n);
     d.dim = 1 + r.below(3);
     d.vectors = (0..n * d.dim).map(|_| if r.below(4) == 0 { r.next() as u8 } else { r.pick(&[10, 11, 12, 200]) }).collect();
@@ -246,12 +241,12 @@ fn large_build(r: &mut Rng, n: usize, metric: u32, one_in: Option<usize>) -> (Ca
         saturate(r, &mut d.vectors, one_in);
     }
     let alpha = r.pick(&[3, 4, 4, 6]);
-    d.params = Params { degree: 4 + r.below(4), beam: 4 + r.below(20), alpha: ALPHAS[alpha], metric, extra: r.below(2) };
+    d.params = Params { degree: 4 + r.below(4), beam: 4 + r.below(20), alpha: ALPHAS[alpha], extra: r.below(2) };
     let (c, l) = build_on(r, &d, alpha);
     // the merge leaves ids rising, but for a row that it pruned
     let pruned = l.wide.chunks(slack(c.degree)).filter(|row| row.windows(2).any(|p| p[0] > p[1])).count();
     assert!(pruned > 0, "no row was longer than the slack");
-    println!("{n} entries, metric {metric}, degree {}: {pruned} rows pruned in the merge", c.degree);
+    println!("{n} entries, degree {}: {pruned} rows pruned in the merge", c.degree);
     (c, l)
 }
 
@@ -290,8 +285,7 @@ fn open(r: &mut Rng, n: usize, most: usize) -> (Case, Left) {
     (Case { table: flat(&opening, degree), wide: n * s, ..case_of(OPEN, &d, alpha) }, Left { wide: flat(&wide, s), ..Left::default() })
 }
 
-/// Spoils a case so that the number's row of 01's table holds, and none that is checked before it; false where the kind has no such refusal or the case no
-/// place for it.
+/// Spoils a case so that the number's row of 01's table holds, and no lower one; false where the kind has no such refusal or the case no place for it.
 fn spoil(r: &mut Rng, c: &mut Case, number: u32) -> bool {
     let (n, degree) = (c.n, c.degree);
     match (number, c.kind) {
@@ -300,9 +294,6 @@ fn spoil(r: &mut Rng, c: &mut Case, number: u32) -> bool {
         }
         (11, DISTANCE) => {
             c.query.push(1);
-        }
-        (18, DISTANCE | MEDOID | SEARCH | BUILD | BATCH | CLOSE) => {
-            c.metric = r.pick(&[2, 3, u32::MAX]);
         }
         (_, DISTANCE) => return false,
         (1, MEDOID | SEARCH | BUILD | BATCH | CLOSE) => {
@@ -415,17 +406,13 @@ fn spoil(r: &mut Rng, c: &mut Case, number: u32) -> bool {
     true
 }
 
-/// The numbers in the order in which they are checked.
-const ORDER: [u32; 13] = [1, 2, 3, 4, 5, 18, 6, 7, 8, 9, 10, 11, 12];
-
 type Kind = fn(&mut Rng, usize, usize) -> (Case, Left);
 const KINDS: [Kind; 7] = [|r, _, _| distance(r), medoid, search, build, batch, close, open];
 
 fn main() {
     let dir = std::env::args().nth(1).expect("replay FOLDER");
-    // with this seed every call that works out distances has cases of each share of samples at 255, and by each metric some with 255 and some without; and 18
-    // meets 5, and meets 6
-    let mut r = Rng(8_014);
+    // with this seed every call that works out distances has cases of each share of samples at 255
+    let mut r = Rng(2_330);
     let mut all: Vec<(Case, Left)> = Vec::new();
     for (kind, many) in [(DISTANCE, 20), (MEDOID, 30), (SEARCH, 40), (BUILD, 60), (BATCH, 40), (CLOSE, 20), (OPEN, 10)] {
         for i in 0..many {
@@ -433,19 +420,16 @@ fn main() {
             all.push(KINDS[kind](&mut r, n, if i % 10 == 0 { 900 } else { 200 }));
         }
     }
-    let larges = [(260, 0, None), (300, 1, Some(10)), (340, 1, None), (380, 0, Some(2)), (420, 0, None), (512, 1, Some(10))];
-    for (n, metric, one_in) in larges {
-        all.push(large_build(&mut r, n, metric, one_in));
+    for (n, one_in) in [(260, None), (300, Some(10)), (340, None), (380, Some(2)), (420, None), (512, Some(10))] {
+        all.push(large_build(&mut r, n, one_in));
     }
-    // every refusal of every call twice, and then pairs of faults: the one that is checked first is returned
+    // every refusal of every call twice, and then pairs of faults: the lower number is returned
     for kind in DISTANCE..=OPEN {
-        for (place, first) in ORDER.into_iter().enumerate() {
-            for later in [0, 0, 1 + r.below(11)] {
+        for first in 1..=12 {
+            for second in [first, first, first + 1 + r.below(11) as u32] {
                 let n = 2 + r.below(6);
                 let mut c = KINDS[kind](&mut r, n, 60).0;
-                let second = ORDER.get(place + later);
-                let spoiled = second.is_some_and(|&second| later == 0 || spoil(&mut r, &mut c, second));
-                if spoiled && spoil(&mut r, &mut c, first) {
+                if (second == first || spoil(&mut r, &mut c, second)) && spoil(&mut r, &mut c, first) {
                     all.push((c, Left { number: first, ..Left::default() }));
                 }
             }
@@ -458,8 +442,7 @@ fn main() {
     let saturated = all.iter().filter(|(c, _)| c.vectors.contains(&255) || c.query.contains(&255)).count();
     assert!(words <= 65_536, "more words than test_calls reads");
     println!("{} cases, {done} done and {} refused, {words} words in {} bytes", all.len(), all.len() - done, stdin.len());
-    let absolute = all.iter().filter(|(c, l)| c.metric == 1 && c.kind != OPEN && l.number == 0).count();
-    println!("{saturated} of them with samples at 255; {absolute} of those done work out distances by metric 1");
+    println!("{saturated} of them with samples at 255");
     std::fs::write(format!("{dir}/stdin"), stdin).unwrap();
     std::fs::write(format!("{dir}/stdout"), stdout).unwrap();
 }

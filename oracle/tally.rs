@@ -3,10 +3,6 @@ use diskann::probe;
 use std::cell::RefCell;
 use std::collections::{BTreeMap, BTreeSet};
 
-/// What a case that works out distances notes of its metric.
-pub const BY_SQUARED: &str = "metric 0";
-pub const BY_ABSOLUTE: &str = "metric 1";
-
 thread_local! {
     static CASE: RefCell<BTreeSet<String>> = const { RefCell::new(BTreeSet::new()) };
     static KIND: RefCell<BTreeMap<String, u64>> = const { RefCell::new(BTreeMap::new()) };

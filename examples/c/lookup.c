@@ -46,7 +46,7 @@ int main(void) {
 
     uint32_t pivots[FJALGROUT_MOST_PIVOTS];
     need("pivots", step(fjalgrout_pivots(state, N, pivots, FJALGROUT_MOST_PIVOTS)));
-    fjalgrout_answer middle = fjalgrout_medoid(N, DIM, vectors, sizeof vectors, params.metric, pivots, fjalgrout_most_pivots(N));
+    fjalgrout_answer middle = fjalgrout_medoid(N, DIM, vectors, sizeof vectors, pivots, fjalgrout_most_pivots(N));
     need("medoid", middle);
     uint32_t start = middle.id;
 
@@ -63,15 +63,15 @@ int main(void) {
     need("build", fjalgrout_build(N, DIM, vectors, sizeof vectors, params, start, order, N, seeds, N * params.extra, opening, closed_words, wide,
                                   wide_words, closed, closed_words, words, words_count, floats, floats_count));
 
-    /* A table is checked once, when it is loaded, and searched with the metric that it was built with. The room of a build is more than that of a lookup. */
+    /* A table is checked once, when it is loaded; the room of a build is more than that of a lookup. */
     need("fit", fjalgrout_fit(N, params.degree, closed, closed_words));
     uint32_t ids[K];
     float dists[K];
     uint8_t query[DIM];
     for (int j = 0; j < DIM; j++) query[j] = vectors[3 * DIM + j];
     query[0] ^= 1;
-    fjalgrout_answer found = fjalgrout_lookup(N, DIM, vectors, sizeof vectors, params.metric, params.degree, BEAM, K, start, closed, closed_words, query, DIM,
-                                              words, words_count, floats, floats_count, ids, K, dists, K);
+    fjalgrout_answer found = fjalgrout_lookup(N, DIM, vectors, sizeof vectors, params.degree, BEAM, K, start, closed, closed_words, query, DIM, words,
+                                              words_count, floats, floats_count, ids, K, dists, K);
     need("lookup", found);
     printf("start %u, %zu answers, %zu rows walked, %zu distances worked out\n", start, found.count, found.expanded, found.measured);
     for (size_t i = 0; i < found.count; i++) printf("id %u label %u distance %.0f\n", ids[i], ids[i] % LABELS, dists[i]);

@@ -1,13 +1,11 @@
-/* Checks of the library through C: cases of docs/01-scope.md with their outcomes, equal distances as 3/13 lists them, both metrics of 8/13, a search's counts
- * and room as 10/13 has them, and refusals, each of which must give its number and change nothing. */
+/* Checks of the library through C: cases of docs/01-scope.md with their outcomes, equal distances as 3/13 lists them, a search's counts and room as 10/13 has
+ * them, and refusals, each of which must give its number and change nothing. */
 #include <fjalgrout.h>
 #include <math.h>
 #include <stdio.h>
 #include <string.h>
 
 #define PAD FJALGROUT_PADDING
-#define SQUARED FJALGROUT_METRIC_SQUARED
-#define ABSOLUTE FJALGROUT_METRIC_ABSOLUTE
 
 static int checks, failures;
 
@@ -35,44 +33,25 @@ static int only(fjalgrout_answer a, uint32_t number) {
 
 /* ---- distance */
 
-/* Of vectors of zeros and of 254s: `most` is what two such samples add. */
-static void distances_by(uint32_t metric, float most) {
+static void test_distance(void) {
     uint8_t low[257] = {0}, high[257];
     memset(high, 254, sizeof high);
-    CHECK(fjalgrout_distance(low, 1, high, 1, metric).distance == most);
-    CHECK(fjalgrout_distance(low, 256, high, 256, metric).distance == 256 * most);
-    CHECK(fjalgrout_distance(low, 256, high, 256, metric).number == 0);
-    CHECK(only(fjalgrout_distance(high, 256, high, 256, metric), 0));
-    CHECK(only(fjalgrout_distance(low, 257, high, 257, metric), 1));
-    CHECK(only(fjalgrout_distance(low, 0, high, 0, metric), 1));
-    CHECK(only(fjalgrout_distance(low, 257, high, 1, metric), 1));
-    CHECK(only(fjalgrout_distance(low, 4, high, 5, metric), 11));
-    /* every length, so that each rest behind a stretch of sixteens is there */
-    for (size_t length = 1; length <= 256; length++) CHECK(fjalgrout_distance(low, length, high, length, metric).distance == (float)length * most);
+    CHECK(fjalgrout_distance(low, 1, high, 1).distance == 64516);
+    CHECK(fjalgrout_distance(low, 256, high, 256).distance == 16516096);
+    CHECK(fjalgrout_distance(low, 256, high, 256).number == 0);
+    CHECK(only(fjalgrout_distance(low, 257, high, 257), 1));
+    CHECK(only(fjalgrout_distance(low, 0, high, 0), 1));
+    CHECK(only(fjalgrout_distance(low, 257, high, 1), 1));
+    CHECK(only(fjalgrout_distance(low, 4, high, 5), 11));
     /* 255 in either vector adds nothing, in whichever place */
     for (size_t i = 0; i < 256; i++) {
         low[i] = 255;
-        CHECK(fjalgrout_distance(low, 256, high, 256, metric).distance == most * 255);
-        CHECK(fjalgrout_distance(high, 256, low, 256, metric).distance == most * 255);
+        CHECK(fjalgrout_distance(low, 256, high, 256).distance == 64516 * 255);
+        CHECK(fjalgrout_distance(high, 256, low, 256).distance == 64516 * 255);
         low[i] = 0;
     }
     memset(high, 255, sizeof high);
-    CHECK(only(fjalgrout_distance(low, 256, high, 256, metric), 0));
-}
-
-static void test_distance(void) {
-    distances_by(SQUARED, 64516);
-    distances_by(ABSOLUTE, 254);
-    static const uint8_t a[4] = {3, 9, 4, 255}, b[4] = {7, 2, 4, 0};
-    CHECK(fjalgrout_distance(a, 4, b, 4, SQUARED).distance == 65);
-    CHECK(fjalgrout_distance(a, 4, b, 4, ABSOLUTE).distance == 11);
-    CHECK(fjalgrout_distance(b, 4, a, 4, ABSOLUTE).distance == 11);
-    /* 18 comes after 1 and before 11 */
-    CHECK(only(fjalgrout_distance(a, 4, b, 4, 2), 18));
-    CHECK(only(fjalgrout_distance(a, 4, b, 4, 3), 18));
-    CHECK(only(fjalgrout_distance(a, 4, b, 4, UINT32_MAX), 18));
-    CHECK(only(fjalgrout_distance(a, 0, b, 4, 2), 1));
-    CHECK(only(fjalgrout_distance(a, 4, b, 3, 2), 18));
+    CHECK(only(fjalgrout_distance(low, 256, high, 256), 0));
 }
 
 /* ---- the line: dim 1, degree 2, start 0 */
@@ -87,7 +66,7 @@ enum { WORDS = 4 + 512, FLOATS = 512 };
 /* One search with all that it is lent; every slice has guards behind its room, and a pattern to begin with. */
 struct searching {
     size_t n, dim, vectors_count, degree, beam, k, table_count, query_count, words_count, floats_count, ids_count, dists_count;
-    uint32_t metric, start, table[8];
+    uint32_t start, table[8];
     const uint8_t *vectors;
     uint8_t query;
     uint32_t words[WORDS + 4], ids[12];
@@ -97,7 +76,7 @@ struct searching {
 static struct searching the_line(uint8_t query, size_t beam, size_t k) {
     struct searching s;
     memset(&s, 0x5A, sizeof s), fill_floats(s.floats, sizeof s.floats), fill_floats(s.dists, sizeof s.dists);
-    s.n = 4, s.dim = 1, s.vectors_count = 4, s.metric = SQUARED, s.degree = 2, s.beam = beam, s.k = k, s.start = 0;
+    s.n = 4, s.dim = 1, s.vectors_count = 4, s.degree = 2, s.beam = beam, s.k = k, s.start = 0;
     s.vectors = line, s.query = query, s.query_count = 1, s.table_count = 8;
     memcpy(s.table, line_rows, sizeof line_rows);
     s.words_count = WORDS, s.floats_count = FLOATS;
@@ -106,12 +85,12 @@ static struct searching the_line(uint8_t query, size_t beam, size_t k) {
 }
 
 static fjalgrout_answer search(struct searching *s) {
-    return fjalgrout_search(s->n, s->dim, s->vectors, s->vectors_count, s->metric, s->degree, s->beam, s->k, s->start, s->table, s->table_count, &s->query,
+    return fjalgrout_search(s->n, s->dim, s->vectors, s->vectors_count, s->degree, s->beam, s->k, s->start, s->table, s->table_count, &s->query,
                             s->query_count, s->words, s->words_count, s->floats, s->floats_count, s->ids, s->ids_count, s->dists, s->dists_count);
 }
 
 static fjalgrout_answer lookup(struct searching *s) {
-    return fjalgrout_lookup(s->n, s->dim, s->vectors, s->vectors_count, s->metric, s->degree, s->beam, s->k, s->start, s->table, s->table_count, &s->query,
+    return fjalgrout_lookup(s->n, s->dim, s->vectors, s->vectors_count, s->degree, s->beam, s->k, s->start, s->table, s->table_count, &s->query,
                             s->query_count, s->words, s->words_count, s->floats, s->floats_count, s->ids, s->ids_count, s->dists, s->dists_count);
 }
 
@@ -142,7 +121,7 @@ static void answers_at(int at, struct searching s, size_t count, const uint32_t 
 #define ANSWERS(s, count, ids, dists) answers_at(__LINE__, s, count, ids, dists)
 
 static fjalgrout_answer run_records(struct searching *s, fjalgrout_candidate *run, size_t run_count) {
-    return fjalgrout_records(s->n, s->dim, s->vectors, s->vectors_count, s->metric, s->degree, s->beam, s->k, s->start, s->table, s->table_count, &s->query,
+    return fjalgrout_records(s->n, s->dim, s->vectors, s->vectors_count, s->degree, s->beam, s->k, s->start, s->table, s->table_count, &s->query,
                              s->query_count, s->words, s->words_count, s->floats, s->floats_count, s->ids, s->ids_count, s->dists, s->dists_count,
                              run, run_count);
 }
@@ -176,48 +155,6 @@ static void test_search(void) {
     ANSWERS(s, 1, ((uint32_t[]){0}), ((float[]){225}));
     s = the_line(25, 8, 8), s.vectors = bent;
     ANSWERS(s, 4, ((uint32_t[]){3, 2, 1, 0}), ((float[]){0, 25, 25, 225}));
-}
-
-/* ---- the same by the absolute metric, which on the line has the order of the squared one */
-
-static struct searching absolutely(uint8_t query, size_t beam, size_t k) {
-    struct searching s = the_line(query, beam, k);
-    s.metric = ABSOLUTE;
-    return s;
-}
-
-static void test_absolute(void) {
-    ANSWERS(absolutely(38, 2, 2), 2, ((uint32_t[]){3, 2}), ((float[]){2, 8}));
-    ANSWERS(absolutely(38, 1, 2), 1, ((uint32_t[]){0}), ((float[]){28}));
-    ANSWERS(absolutely(38, 8, 8), 4, ((uint32_t[]){3, 2, 1, 0}), ((float[]){2, 8, 18, 28}));
-    ANSWERS(absolutely(25, 4, 4), 4, ((uint32_t[]){2, 1, 3, 0}), ((float[]){5, 5, 15, 15}));
-    ANSWERS(absolutely(255, 4, 4), 4, ((uint32_t[]){3, 2, 1, 0}), ((float[]){0, 0, 0, 0}));
-    struct searching s = absolutely(25, 2, 2), plain = s;
-    s.vectors = plain.vectors = bent;
-    fjalgrout_candidate run[4];
-    CHECK(run_records(&s, run, 4).count == 2 && search(&plain).count == 2 && memcmp(&s, &plain, sizeof s) == 0);
-    CHECK(run[0].id == 2 && run[0].distance == 5 && run[1].id == 1 && run[1].distance == 5);
-    s = absolutely(25, 2, 2), s.vectors = bent;
-    ANSWERS(s, 2, ((uint32_t[]){2, 1}), ((float[]){5, 5}));
-}
-
-/* One spike: entry 1 has it, entry 2 is a little off in every sample. By squares the spike decides. */
-static void test_spike(void) {
-    static const uint8_t three[12] = {90, 90, 90, 90, 10, 10, 10, 40, 20, 20, 20, 20}, query[4] = {10, 10, 10, 10};
-    static const uint32_t table[6] = {1, 2, 0, 2, 0, 1}, orders[2][3] = {{2, 1, 0}, {1, 2, 0}};
-    static const float far[2][3] = {{400, 900, 25600}, {30, 40, 320}};
-    uint32_t words[3 + 1024] = {0}, ids[3];
-    float floats[1024] = {0}, dists[3];
-    for (uint32_t metric = SQUARED; metric <= ABSOLUTE; metric++) {
-        fjalgrout_answer a = fjalgrout_search(3, 4, three, 12, metric, 2, 3, 3, 0, table, 6, query, 4, words, 3 + 512, floats, 512, ids, 3, dists, 3);
-        CHECK(a.number == 0 && a.count == 3 && memcmp(ids, orders[metric], sizeof ids) == 0 && memcmp(dists, far[metric], sizeof dists) == 0);
-        for (size_t k = 1; k <= 3; k++) {
-            a = fjalgrout_exhaustive(3, 4, three, 12, metric, k, query, 4, ids, 3, dists, 3);
-            CHECK(a.number == 0 && a.count == k && memcmp(ids, orders[metric], k * 4) == 0 && memcmp(dists, far[metric], k * sizeof(float)) == 0);
-            struct fjalgrout_report r = fjalgrout_report(3, 4, three, 12, metric, 2, 3, k, 0, table, 6, query, 4, words, 3 + 1024, floats, 1024);
-            CHECK(r.number == 0 && r.queries == 1 && r.asked == k && r.found == k && r.whole == 1);
-        }
-    }
 }
 
 /* ---- equal distances: the higher id first, also at the cut; a full beam keeps the lower id */
@@ -305,11 +242,7 @@ static void test_search_refusals(void) {
     REFUSES(3, s.degree = 0);
     REFUSES(3, s.degree = 65);
     REFUSES(4, s.beam = 257);
-    REFUSES(18, s.metric = 2);
-    REFUSES(18, s.metric = 3);
-    REFUSES(18, s.metric = UINT32_MAX);
     REFUSES(6, s.start = 4);
-    REFUSES(6, (s.start = 4, s.metric = ABSOLUTE));
     REFUSES(8, s.table_count = 7);
     REFUSES(8, s.table[5] = 4);
     REFUSES(8, s.table[7] = PAD - 1);
@@ -318,16 +251,9 @@ static void test_search_refusals(void) {
     REFUSES(10, s.ids_count--);
     REFUSES(10, s.dists_count--);
     REFUSES(11, s.query_count = 0);
-    /* two faults: the lower number; 18 comes after 4 and before 6 */
+    /* two faults: the lower number */
     REFUSES(1, (s.dim = 0, s.start = 9));
-    REFUSES(1, (s.dim = 0, s.metric = 2));
-    REFUSES(2, (s.n = 0, s.metric = 2));
-    REFUSES(3, (s.degree = 0, s.metric = 2));
     REFUSES(4, (s.beam = 257, s.query_count = 0));
-    REFUSES(4, (s.beam = 257, s.metric = 2));
-    REFUSES(18, (s.start = 4, s.metric = 2));
-    REFUSES(18, (s.table_count = 7, s.metric = 2));
-    REFUSES(18, (s.words_count = 0, s.query_count = 0, s.metric = 2));
     REFUSES(8, (s.table_count = 7, s.words_count = 0));
     REFUSES(10, (s.words_count = 0, s.query_count = 0));
 }
@@ -374,21 +300,20 @@ struct exhausting {
     size_t n, dim, vectors_count, k, query_count, ids_count, dists_count;
     const uint8_t *vectors;
     uint8_t query;
-    uint32_t metric, ids[8];
+    uint32_t ids[8];
     float dists[8];
 };
 
 static struct exhausting all_of_the_line(uint8_t query, size_t k) {
     struct exhausting e;
     memset(&e, 0x5A, sizeof e), fill_floats(e.dists, sizeof e.dists);
-    e.n = 4, e.dim = 1, e.vectors_count = 4, e.metric = SQUARED, e.k = k, e.query_count = 1, e.vectors = line, e.query = query;
+    e.n = 4, e.dim = 1, e.vectors_count = 4, e.k = k, e.query_count = 1, e.vectors = line, e.query = query;
     e.ids_count = e.dists_count = fjalgrout_most_nearest(4, k);
     return e;
 }
 
 static fjalgrout_answer exhaustive(struct exhausting *e) {
-    return fjalgrout_exhaustive(e->n, e->dim, e->vectors, e->vectors_count, e->metric, e->k, &e->query, e->query_count, e->ids, e->ids_count, e->dists,
-                                e->dists_count);
+    return fjalgrout_exhaustive(e->n, e->dim, e->vectors, e->vectors_count, e->k, &e->query, e->query_count, e->ids, e->ids_count, e->dists, e->dists_count);
 }
 
 static void nearest_at(int at, struct exhausting e, size_t count, const uint32_t *ids, const float *dists) {
@@ -427,8 +352,6 @@ static void test_exhaustive(void) {
     NEAREST(e, 2, ((uint32_t[]){2, 1}), ((float[]){0, 25}));
     e = all_of_the_line(20, 2), e.vectors = alike;
     NEAREST(e, 2, ((uint32_t[]){3, 2}), ((float[]){0, 0}));
-    e = all_of_the_line(25, 3), e.metric = ABSOLUTE;
-    NEAREST(e, 3, ((uint32_t[]){2, 1, 3}), ((float[]){5, 5, 15}));
 
     EXHAUSTIVE_REFUSES(1, e.dim = 0);
     EXHAUSTIVE_REFUSES(1, e.dim = 257);
@@ -436,8 +359,6 @@ static void test_exhaustive(void) {
     EXHAUSTIVE_REFUSES(2, e.n = 65537);
     EXHAUSTIVE_REFUSES(2, e.vectors_count = 3);
     EXHAUSTIVE_REFUSES(2, (e.n = (size_t)1 << 63, e.dim = 2, e.vectors_count = 0));
-    EXHAUSTIVE_REFUSES(18, e.metric = 2);
-    EXHAUSTIVE_REFUSES(18, e.metric = UINT32_MAX);
     EXHAUSTIVE_REFUSES(10, e.ids_count = 1);
     EXHAUSTIVE_REFUSES(10, e.dists_count = 1);
     EXHAUSTIVE_REFUSES(10, (e.k = 5, e.ids_count = e.dists_count = 3));
@@ -445,14 +366,9 @@ static void test_exhaustive(void) {
     EXHAUSTIVE_REFUSES(14, e.k = 0);
     EXHAUSTIVE_REFUSES(14, (e.k = 257, e.ids_count = e.dists_count = 4));
     EXHAUSTIVE_REFUSES(14, (e.k = SIZE_MAX, e.ids_count = e.dists_count = 4));
-    /* two faults: the lower number, but that 18 comes before 10. k 0 asks for no room, k 257 for n */
+    /* two faults: the lower number. k 0 asks for no room, k 257 for n */
     EXHAUSTIVE_REFUSES(1, (e.dim = 0, e.k = 0));
-    EXHAUSTIVE_REFUSES(1, (e.dim = 0, e.metric = 2));
     EXHAUSTIVE_REFUSES(2, (e.n = 0, e.query_count = 0));
-    EXHAUSTIVE_REFUSES(2, (e.vectors_count = 3, e.metric = 2));
-    EXHAUSTIVE_REFUSES(18, (e.ids_count = 1, e.metric = 2));
-    EXHAUSTIVE_REFUSES(18, (e.query_count = 0, e.metric = 2));
-    EXHAUSTIVE_REFUSES(18, (e.k = 0, e.metric = 2));
     EXHAUSTIVE_REFUSES(10, (e.k = 257, e.ids_count = 3));
     EXHAUSTIVE_REFUSES(11, (e.k = 0, e.query_count = 0));
     EXHAUSTIVE_REFUSES(14, (e.k = 0, e.ids_count = e.dists_count = 0));
@@ -462,7 +378,7 @@ static void test_exhaustive(void) {
 
 struct reporting {
     size_t n, dim, vectors_count, degree, beam, k, table_count, queries_count, words_count, floats_count;
-    uint32_t metric, start, table[8];
+    uint32_t start, table[8];
     const uint8_t *vectors, *queries;
     uint32_t words[4 + 1024 + 4];
     float floats[1024 + 4];
@@ -473,7 +389,7 @@ static const uint8_t line_queries[2] = {25, 38}, many_queries[65536];
 static struct reporting report_of_the_line(size_t beam, size_t k) {
     struct reporting r;
     memset(&r, 0x5A, sizeof r), fill_floats(r.floats, sizeof r.floats);
-    r.n = 4, r.dim = 1, r.vectors_count = 4, r.metric = SQUARED, r.degree = 2, r.beam = beam, r.k = k, r.start = 0;
+    r.n = 4, r.dim = 1, r.vectors_count = 4, r.degree = 2, r.beam = beam, r.k = k, r.start = 0;
     r.vectors = line, r.queries = line_queries, r.queries_count = 2, r.table_count = 8;
     memcpy(r.table, line_rows, sizeof line_rows);
     r.words_count = fjalgrout_report_words(4), r.floats_count = fjalgrout_report_floats(4);
@@ -481,7 +397,7 @@ static struct reporting report_of_the_line(size_t beam, size_t k) {
 }
 
 static struct fjalgrout_report report(struct reporting *r) {
-    return fjalgrout_report(r->n, r->dim, r->vectors, r->vectors_count, r->metric, r->degree, r->beam, r->k, r->start, r->table, r->table_count, r->queries,
+    return fjalgrout_report(r->n, r->dim, r->vectors, r->vectors_count, r->degree, r->beam, r->k, r->start, r->table, r->table_count, r->queries,
                             r->queries_count, r->words, r->words_count, r->floats, r->floats_count);
 }
 
@@ -531,8 +447,6 @@ static void test_report(void) {
     REPORTS(r, 1, 2, 1, 0);
     r.beam = 3;
     REPORTS(r, 1, 2, 2, 1);
-    r = report_of_the_line(2, 4), r.metric = ABSOLUTE;
-    REPORTS(r, 2, 8, 4, 0);
 
     REPORT_REFUSES(1, r.dim = 0);
     REPORT_REFUSES(1, r.dim = 257);
@@ -541,8 +455,6 @@ static void test_report(void) {
     REPORT_REFUSES(3, r.degree = 0);
     REPORT_REFUSES(3, r.degree = 65);
     REPORT_REFUSES(4, r.beam = 257);
-    REPORT_REFUSES(18, r.metric = 2);
-    REPORT_REFUSES(18, r.metric = UINT32_MAX);
     REPORT_REFUSES(6, r.start = 4);
     REPORT_REFUSES(8, r.table_count = 7);
     REPORT_REFUSES(8, r.table[5] = 4);
@@ -555,13 +467,9 @@ static void test_report(void) {
     REPORT_REFUSES(14, r.k = 0);
     REPORT_REFUSES(14, r.k = 257);
     REPORT_REFUSES(14, (r.k = SIZE_MAX, r.queries_count = 0));
-    /* two faults: the lower number; 18 comes after 4 and before 6 */
+    /* two faults: the lower number */
     REPORT_REFUSES(1, (r.dim = 0, r.k = 0));
     REPORT_REFUSES(4, (r.beam = 257, r.start = 4));
-    REPORT_REFUSES(4, (r.beam = 257, r.metric = 2));
-    REPORT_REFUSES(18, (r.start = 4, r.metric = 2));
-    REPORT_REFUSES(18, (r.table[0] = 4, r.metric = 2));
-    REPORT_REFUSES(18, (r.k = 0, r.metric = 2));
     REPORT_REFUSES(8, (r.table[0] = 4, r.words_count = 0));
     REPORT_REFUSES(10, (r.words_count = 0, r.queries = many_queries, r.queries_count = 65536));
     REPORT_REFUSES(11, (r.queries = many_queries, r.queries_count = 65536, r.k = 0));
@@ -589,25 +497,15 @@ static void test_records(void) {
 
 static void test_medoid(void) {
     uint32_t pivots[9] = {0, 3, 0, 0, 0, 0, 0, 0, 0}, far[1] = {4};
-    fjalgrout_answer a = fjalgrout_medoid(4, 1, line, 4, SQUARED, pivots, 2);
+    fjalgrout_answer a = fjalgrout_medoid(4, 1, line, 4, pivots, 2);
     CHECK(a.id == 1);
     a.id = 0;
     CHECK(only(a, 0));
-    /* by the absolute metric every score is 30 */
-    CHECK(only(fjalgrout_medoid(4, 1, line, 4, ABSOLUTE, pivots, 2), 0));
-    CHECK(fjalgrout_medoid(4, 1, line, 4, ABSOLUTE, (uint32_t[]){1, 3, 2}, 3).id == 2);
-    for (uint32_t metric = SQUARED; metric <= ABSOLUTE; metric++) {
-        CHECK(only(fjalgrout_medoid(4, 0, line, 4, metric, pivots, 2), 1));
-        CHECK(only(fjalgrout_medoid(4, 1, line, 3, metric, pivots, 2), 2));
-        CHECK(only(fjalgrout_medoid(4, 1, line, 4, metric, pivots, 0), 12));
-        CHECK(only(fjalgrout_medoid(4, 1, line, 4, metric, pivots, 9), 12));
-        CHECK(only(fjalgrout_medoid(4, 1, line, 4, metric, far, 1), 12));
-    }
-    CHECK(only(fjalgrout_medoid(4, 1, line, 4, 2, pivots, 2), 18));
-    CHECK(only(fjalgrout_medoid(4, 1, line, 4, UINT32_MAX, pivots, 2), 18));
-    CHECK(only(fjalgrout_medoid(4, 0, line, 4, 2, pivots, 2), 1));
-    CHECK(only(fjalgrout_medoid(4, 1, line, 3, 2, pivots, 2), 2));
-    CHECK(only(fjalgrout_medoid(4, 1, line, 4, 2, pivots, 0), 18));
+    CHECK(only(fjalgrout_medoid(4, 0, line, 4, pivots, 2), 1));
+    CHECK(only(fjalgrout_medoid(4, 1, line, 3, pivots, 2), 2));
+    CHECK(only(fjalgrout_medoid(4, 1, line, 4, pivots, 0), 12));
+    CHECK(only(fjalgrout_medoid(4, 1, line, 4, pivots, 9), 12));
+    CHECK(only(fjalgrout_medoid(4, 1, line, 4, far, 1), 12));
 }
 
 /* ---- draws */
@@ -660,10 +558,10 @@ static float floats[4 * 4 + 1024 + 1];
 
 /* A batch of node 0 alone, at the origin, whose row names every other entry, with degree 4. The merge sorts the pruned row by id, so that it is what
  * pruning took that is seen here, and not in which order. */
-static void pruned_at(int at, uint32_t metric, size_t n, const uint8_t *vectors, float alpha, const uint32_t *row) {
+static void pruned_at(int at, size_t n, const uint8_t *vectors, float alpha, const uint32_t *row) {
     const size_t slack = fjalgrout_slack(4);
     uint32_t wide[4 * 6], node = 0;
-    fjalgrout_params params = {.degree = 4, .beam = 0, .alpha = alpha, .metric = metric, .extra = 0};
+    fjalgrout_params params = {4, 0, alpha, 0};
     for (size_t i = 0; i < n * slack; i++) wide[i] = PAD;
     for (uint32_t i = 1; i < n; i++) wide[i - 1] = i;
     fjalgrout_answer a = fjalgrout_batch(n, 2, vectors, 2 * n, params, 0, &node, 1, &node, 0, wide, n * slack, words, fjalgrout_build_words(n), floats,
@@ -673,16 +571,11 @@ static void pruned_at(int at, uint32_t metric, size_t n, const uint8_t *vectors,
 }
 
 static void test_pruning(void) {
-    static const uint8_t four[8] = {0, 0, 20, 0, 11, 18, 0, 30}, three[6] = {0, 0, 10, 0, 5, 9}, aside[6] = {0, 0, 0, 12, 9, 9};
-    pruned_at(__LINE__, SQUARED, 4, four, 1.0f, (uint32_t[]){1, 3, PAD, PAD});
-    pruned_at(__LINE__, SQUARED, 4, four, 1.2f, (uint32_t[]){1, 2, 3, PAD});
-    pruned_at(__LINE__, SQUARED, 4, four, NAN, (uint32_t[]){1, 3, PAD, PAD});
-    pruned_at(__LINE__, SQUARED, 3, three, 1.0f, (uint32_t[]){1, 2, PAD, PAD});
-    /* the quotient of entry 2 is 162 / 90, and by the absolute metric 18 / 12 */
-    pruned_at(__LINE__, SQUARED, 3, aside, 1.6f, (uint32_t[]){1, PAD, PAD, PAD});
-    pruned_at(__LINE__, SQUARED, 3, aside, 1.8f, (uint32_t[]){1, 2, PAD, PAD});
-    pruned_at(__LINE__, ABSOLUTE, 3, aside, 1.4f, (uint32_t[]){1, PAD, PAD, PAD});
-    pruned_at(__LINE__, ABSOLUTE, 3, aside, 1.6f, (uint32_t[]){1, 2, PAD, PAD});
+    static const uint8_t four[8] = {0, 0, 20, 0, 11, 18, 0, 30}, three[6] = {0, 0, 10, 0, 5, 9};
+    pruned_at(__LINE__, 4, four, 1.0f, (uint32_t[]){1, 3, PAD, PAD});
+    pruned_at(__LINE__, 4, four, 1.2f, (uint32_t[]){1, 2, 3, PAD});
+    pruned_at(__LINE__, 4, four, NAN, (uint32_t[]){1, 3, PAD, PAD});
+    pruned_at(__LINE__, 3, three, 1.0f, (uint32_t[]){1, 2, PAD, PAD});
 }
 
 struct building {
@@ -695,7 +588,7 @@ static struct building the_build(void) {
     struct building b;
     memset(&b, 0x5A, sizeof b);
     b.n = 4, b.dim = 1, b.vectors_count = 4, b.order_count = 4, b.seeds_count = 4, b.opening_count = 8, b.wide_count = 12, b.closed_count = 8;
-    b.params = (fjalgrout_params){.degree = 2, .beam = 8, .alpha = 1.2f, .metric = SQUARED, .extra = 1};
+    b.params = (fjalgrout_params){2, 8, 1.2f, 1};
     b.start = 0;
     memcpy(b.order, (uint32_t[]){3, 1, 0, 2}, 16), memcpy(b.seeds, (uint32_t[]){1, 2, 3, 1}, 16), memcpy(b.opening, line_rows, 32);
     b.words_count = fjalgrout_build_words(4), b.floats_count = fjalgrout_build_floats(4);
@@ -757,9 +650,6 @@ static void test_batch_and_close_refusals(void) {
     CALL_REFUSES(batch, 4, b.params.beam = 257);
     BOTH_REFUSE(5, b.params.alpha = nextafterf(4.0f, 5.0f));
     BOTH_REFUSE(5, b.params.alpha = INFINITY);
-    BOTH_REFUSE(18, b.params.metric = 2);
-    BOTH_REFUSE(18, b.params.metric = 3);
-    BOTH_REFUSE(18, b.params.metric = UINT32_MAX);
     CALL_REFUSES(batch, 6, b.start = 4);
     CALL_REFUSES(batch, 7, b.params.extra = 4);
     CALL_REFUSES(batch, 7, b.seeds[2] = 0);
@@ -772,15 +662,6 @@ static void test_batch_and_close_refusals(void) {
     CALL_REFUSES(batch, 9, b.order[0] = 4);
     BOTH_REFUSE(10, b.words_count--);
     BOTH_REFUSE(10, b.floats_count--);
-    /* 18 comes after 5, and before 6 and 8 */
-    BOTH_REFUSE(1, (b.dim = 0, b.params.metric = 2));
-    BOTH_REFUSE(3, (b.params.degree = 0, b.params.metric = 2));
-    BOTH_REFUSE(5, (b.params.alpha = 4.5f, b.params.metric = 2));
-    CALL_REFUSES(batch, 4, (b.params.beam = 257, b.params.metric = 2));
-    CALL_REFUSES(batch, 18, (b.start = 4, b.params.metric = 2));
-    CALL_REFUSES(batch, 18, (b.seeds_count = 3, b.params.metric = 2));
-    BOTH_REFUSE(18, (b.wide_count = 11, b.params.metric = 2));
-    BOTH_REFUSE(18, (b.words_count--, b.params.metric = 2));
 }
 
 static void test_build(void) {
@@ -805,9 +686,6 @@ static void test_build(void) {
     BUILD_REFUSES(4, b.params.beam = 257);
     BUILD_REFUSES(5, b.params.alpha = nextafterf(4.0f, 5.0f));
     BUILD_REFUSES(5, b.params.alpha = INFINITY);
-    BUILD_REFUSES(18, b.params.metric = 2);
-    BUILD_REFUSES(18, b.params.metric = 3);
-    BUILD_REFUSES(18, b.params.metric = UINT32_MAX);
     BUILD_REFUSES(6, b.start = 4);
     BUILD_REFUSES(7, b.params.extra = 4);
     BUILD_REFUSES(7, b.seeds[2] = 0);
@@ -818,20 +696,12 @@ static void test_build(void) {
     BUILD_REFUSES(9, b.order[0] = 1);
     BUILD_REFUSES(10, b.words_count--);
     BUILD_REFUSES(10, b.floats_count--);
-    BUILD_REFUSES(5, (b.params.alpha = 4.5f, b.params.metric = 2));
-    BUILD_REFUSES(18, (b.start = 4, b.params.metric = 2));
-    BUILD_REFUSES(18, (b.order[0] = 1, b.params.metric = 2));
     b = the_build(), b.params.alpha = 4.0f;
     CHECK(only(build(&b), 0));
-    b = the_build(), b.params.metric = ABSOLUTE;
-    CHECK(only(build(&b), 0));
-    s = absolutely(38, 4, 4);
-    memcpy(s.table, b.closed, sizeof b.closed);
-    ANSWERS(s, 4, ((uint32_t[]){3, 2, 1, 0}), ((float[]){2, 8, 18, 28}));
 }
 
 static void test_one_entry(void) {
-    fjalgrout_params params = {.degree = 2, .beam = 4, .alpha = 1.2f, .metric = SQUARED, .extra = 1};
+    fjalgrout_params params = {2, 4, 1.2f, 1};
     uint32_t opening[2] = {PAD, PAD}, wide[3], closed[2], order = 0, seed = 0;
     uint8_t vector = 9;
     fjalgrout_answer a = fjalgrout_build(1, 1, &vector, 1, params, 0, &order, 1, &seed, 1, opening, 2, wide, 3, closed, 2, words,
@@ -844,7 +714,7 @@ static void test_one_entry(void) {
 }
 
 static void test_open_close(void) {
-    fjalgrout_params params = {.degree = 2, .beam = 999, .alpha = 1.2f, .metric = SQUARED, .extra = 999};
+    fjalgrout_params params = {2, 999, 1.2f, 999};
     uint32_t wide[12], closed[8], kept[12];
     memset(kept, 0x5A, sizeof kept), memcpy(wide, kept, sizeof wide), memcpy(closed, kept, sizeof closed);
     CHECK(only(fjalgrout_open(0, 2, line_rows, 8, wide, 12), 2));
@@ -864,9 +734,7 @@ static void test_open_close(void) {
 
 static void test_defaults(void) {
     fjalgrout_params p = fjalgrout_defaults();
-    CHECK(p.degree == 64 && p.beam == 128 && p.alpha == 1.2f && p.metric == SQUARED && p.extra == 1);
-    /* the metric stands where padding stood, so that the record is no longer than before it */
-    CHECK(sizeof p == 32 && offsetof(fjalgrout_params, metric) == 20 && offsetof(fjalgrout_params, extra) == 24);
+    CHECK(p.degree == 64 && p.beam == 128 && p.alpha == 1.2f && p.extra == 1);
 }
 
 /* Every size is right where it is one, and SIZE_MAX where it is none. */
@@ -891,8 +759,6 @@ int main(void) {
     test_sizes();
     test_distance();
     test_search();
-    test_absolute();
-    test_spike();
     test_equals();
     test_counts();
     test_room();

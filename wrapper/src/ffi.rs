@@ -17,14 +17,13 @@ pub struct Answer {
     pub measured: usize,
 }
 
-/// The build parameters. NaN alpha and any alpha below 1.0 act as 1.0. Beam 0 is legal. Metric 0 is the squared one, 1 the absolute one.
+/// The build parameters. NaN alpha and any alpha below 1.0 act as 1.0. Beam 0 is legal.
 #[repr(C)]
 #[derive(Clone, Copy, Debug, PartialEq)]
 pub struct Params {
     pub degree: usize,
     pub beam: usize,
     pub alpha: f32,
-    pub metric: u32,
     pub extra: usize,
 }
 
@@ -59,9 +58,9 @@ pub struct Report {
 extern "C" {
     pub fn fjalgrout_defaults() -> Params;
 
-    pub fn fjalgrout_distance(a: *const u8, a_count: usize, b: *const u8, b_count: usize, metric: u32) -> Answer;
+    pub fn fjalgrout_distance(a: *const u8, a_count: usize, b: *const u8, b_count: usize) -> Answer;
 
-    pub fn fjalgrout_medoid(n: usize, dim: usize, vectors: *const u8, vectors_count: usize, metric: u32, pivots: *const u32, pivots_count: usize) -> Answer;
+    pub fn fjalgrout_medoid(n: usize, dim: usize, vectors: *const u8, vectors_count: usize, pivots: *const u32, pivots_count: usize) -> Answer;
 
     pub fn fjalgrout_batch(
         n: usize,
@@ -128,7 +127,6 @@ extern "C" {
         dim: usize,
         vectors: *const u8,
         vectors_count: usize,
-        metric: u32,
         degree: usize,
         beam: usize,
         k: usize,
@@ -152,7 +150,6 @@ extern "C" {
         dim: usize,
         vectors: *const u8,
         vectors_count: usize,
-        metric: u32,
         degree: usize,
         beam: usize,
         k: usize,
@@ -178,7 +175,6 @@ extern "C" {
         dim: usize,
         vectors: *const u8,
         vectors_count: usize,
-        metric: u32,
         k: usize,
         query: *const u8,
         query_count: usize,
@@ -193,7 +189,6 @@ extern "C" {
         dim: usize,
         vectors: *const u8,
         vectors_count: usize,
-        metric: u32,
         degree: usize,
         beam: usize,
         k: usize,
@@ -213,7 +208,6 @@ extern "C" {
         dim: usize,
         vectors: *const u8,
         vectors_count: usize,
-        metric: u32,
         degree: usize,
         beam: usize,
         k: usize,

@@ -10,7 +10,6 @@
 //! | 3 | degree is 0 or above 64 |
 //! | 4 | beam above 256 |
 //! | 5 | alpha above 4.0, infinity included |
-//! | 18 | the metric's number is neither 0 nor 1: [`Metric`] has no other, so that only its `try_from` gives this |
 //! | 6 | start id not below n |
 //! | 7 | extra seeds above 16 or not below n; seeds not that many per node; a seed not below n, equal to the start, or repeated within its group |
 //! | 8 | a table, also one to be written, has the wrong length, or an entry of one that is read breaks its rule |
@@ -20,24 +19,21 @@
 //! | 12 | pivots: none, over 8, or one not below n |
 //! | 14 | k is 0 or above 256, for [`exhaustive`] and [`report`] alone |
 //!
-//! A call checks those that are listed at it, in the order of this table; the first that holds is given. (Below this crate every call that works out distances
-//! checks 18 too, at its place here; see [`ffi`].)
+//! A call checks, in rising number, those that are listed at it; the first that holds is given.
 
 pub mod ffi;
 mod generator;
-mod metric;
 mod recall;
 mod sizes;
 
-pub use ffi::Candidate;
+pub use ffi::{Candidate, Params};
 pub use generator::Generator;
-pub use metric::Metric;
 pub use recall::{exhaustive, report, Report};
 pub use sizes::{build_room, most_answers, most_nearest, report_room, search_room, slack, Room, PADDING};
 
 use ffi::Answer;
 
-/// The number of a refused call: 1 to 12, 14 or 18.
+/// The number of a refused call: 1 to 12, or 14.
 #[derive(Clone, Copy, Debug, PartialEq, Eq)]
 pub struct Refusal(pub u32);
 
@@ -49,48 +45,20 @@ impl std::fmt::Display for Refusal {
 
 impl std::error::Error for Refusal {}
 
-/// The build parameters. NaN alpha and any alpha below 1.0 act as 1.0. Beam 0 is legal. The metric of a build is that of its vectors.
-#[derive(Clone, Copy, Debug, PartialEq)]
-pub struct Params {
-    pub degree: usize,
-    pub beam: usize,
-    pub alpha: f32,
-    pub extra: usize,
-}
-
-impl Params {
-    fn by(self, metric: Metric) -> ffi::Params {
-        let Self { degree, beam, alpha, extra } = self;
-        ffi::Params {
-            degree,
-            beam,
-            alpha,
-            metric: metric as u32,
-            extra,
-        }
-    }
-}
-
 impl Default for Params {
     /// Degree 64, beam 128, alpha 1.2, one extra seed.
     fn default() -> Self {
         // SAFETY: the call takes nothing.
-        let ffi::Params {
-            degree, beam, alpha, extra, ..
-        } = unsafe { ffi::fjalgrout_defaults() };
-        Self { degree, beam, alpha, extra }
+        unsafe { ffi::fjalgrout_defaults() }
     }
 }
 
-/// The vectors that a table is over: n of them, each of dim bytes, one behind the other; and the metric by which they lie apart. A table carries no metric,
-/// so it stands here, with what a build and a search of its table are both given. One that is searched by the other metric is searched as safely, but its rows
-/// were not chosen for that.
+/// The vectors that a table is over: n of them, each of dim bytes, one behind the other.
 #[derive(Clone, Copy, Debug)]
 pub struct Vectors<'a> {
     pub n: usize,
     pub dim: usize,
     pub bytes: &'a [u8],
-    pub metric: Metric,
 }
 
 /// Scratch, lent: [`build_room`], [`search_room`] and [`report_room`] say how much. On success that much is left zero; what lies beyond is untouched.
@@ -138,27 +106,26 @@ fn found(answer: Answer) -> Result<Found, Refusal> {
     Ok(Found { count, expanded, measured })
 }
 
-/// Distance: by the metric, the sum of squared byte differences, at most 16,516,096, or of absolute ones, at most 65,024; an exact whole number. A sample that
-/// is 255 in either vector is saturated and adds nothing, here and wherever a call works out distances: so 0 does not mean equal bytes. Numbers 1, 11.
-pub fn distance(a: &[u8], b: &[u8], metric: Metric) -> Result<f32, Refusal> {
+/// Distance: the sum of squared byte differences, an exact whole number of at most 16,516,096. A sample that is 255 in either vector is saturated and adds
+/// nothing, here and wherever a call works out distances: so 0 does not mean equal bytes. Numbers 1, 11.
+pub fn distance(a: &[u8], b: &[u8]) -> Result<f32, Refusal> {
     // SAFETY: address and length are those of slices.
-    let answer = unsafe { ffi::fjalgrout_distance(a.as_ptr(), a.len(), b.as_ptr(), b.len(), metric as u32) };
+    let answer = unsafe { ffi::fjalgrout_distance(a.as_ptr(), a.len(), b.as_ptr(), b.len()) };
     Ok(done(answer)?.distance)
 }
 
-/// Medoid: the id with the least sum of distances to the pivots, the lower id on equality. The sums are f32: by [`Metric::Absolute`] always exact, by
-/// [`Metric::Squared`] exact for a dim of at most 32 and beyond that within 21. Numbers 1, 2, 12.
+/// Medoid: the id with the least sum of distances to the pivots, the lower id on equality. Numbers 1, 2, 12.
 pub fn medoid(vectors: Vectors, pivots: &[u32]) -> Result<u32, Refusal> {
-    let Vectors { n, dim, bytes, metric } = vectors;
+    let Vectors { n, dim, bytes } = vectors;
     // SAFETY: address and length are those of slices.
-    let answer = unsafe { ffi::fjalgrout_medoid(n, dim, bytes.as_ptr(), bytes.len(), metric as u32, pivots.as_ptr(), pivots.len()) };
+    let answer = unsafe { ffi::fjalgrout_medoid(n, dim, bytes.as_ptr(), bytes.len(), pivots.as_ptr(), pivots.len()) };
     Ok(done(answer)?.id)
 }
 
 /// Batch: the listed nodes, at most 256, get fresh rows, all from the rows as they were before the batch, and the rows that these name are merged.
 /// `seeds` has `params.extra` ids for each node, in the nodes' order. Scratch: [`build_room`]. Numbers 1 to 10.
 pub fn batch(vectors: Vectors, params: Params, start: u32, nodes: &[u32], seeds: &[u32], wide: &mut [u32], scratch: Scratch) -> Result<(), Refusal> {
-    let Vectors { n, dim, bytes, metric } = vectors;
+    let Vectors { n, dim, bytes } = vectors;
     let Scratch { words, floats } = scratch;
     // SAFETY: address and length are those of slices, and the borrows keep those that are written apart.
     let answer = unsafe {
@@ -167,7 +134,7 @@ pub fn batch(vectors: Vectors, params: Params, start: u32, nodes: &[u32], seeds:
             dim,
             bytes.as_ptr(),
             bytes.len(),
-            params.by(metric),
+            params,
             start,
             nodes.as_ptr(),
             nodes.len(),
@@ -194,7 +161,7 @@ pub fn open(n: usize, degree: usize, opening: &[u32], wide: &mut [u32]) -> Resul
 /// Close: prunes each wide row longer than degree and copies the others. The record's beam and extra seeds are ignored. Scratch: [`build_room`].
 /// Numbers 1, 2, 3, 5, 8, 10.
 pub fn close(vectors: Vectors, params: Params, wide: &[u32], closed: &mut [u32], scratch: Scratch) -> Result<(), Refusal> {
-    let Vectors { n, dim, bytes, metric } = vectors;
+    let Vectors { n, dim, bytes } = vectors;
     let Scratch { words, floats } = scratch;
     // SAFETY: address and length are those of slices, and the borrows keep those that are written apart.
     let answer = unsafe {
@@ -203,7 +170,7 @@ pub fn close(vectors: Vectors, params: Params, wide: &[u32], closed: &mut [u32],
             dim,
             bytes.as_ptr(),
             bytes.len(),
-            params.by(metric),
+            params,
             wide.as_ptr(),
             wide.len(),
             closed.as_mut_ptr(),
@@ -232,7 +199,7 @@ pub fn build(
     closed: &mut [u32],
     scratch: Scratch,
 ) -> Result<(), Refusal> {
-    let Vectors { n, dim, bytes, metric } = vectors;
+    let Vectors { n, dim, bytes } = vectors;
     let Scratch { words, floats } = scratch;
     // SAFETY: address and length are those of slices, and the borrows keep those that are written apart.
     let answer = unsafe {
@@ -241,7 +208,7 @@ pub fn build(
             dim,
             bytes.as_ptr(),
             bytes.len(),
-            params.by(metric),
+            params,
             start,
             order.as_ptr(),
             order.len(),
@@ -270,7 +237,7 @@ pub fn build(
 ///
 /// Scratch: [`search_room`]; each output [`most_answers`]. Numbers 1, 2, 3, 4, 6, 8, 10, 11.
 pub fn search(vectors: Vectors, table: Table, wanted: Wanted, query: &[u8], scratch: Scratch, ids: &mut [u32], dists: &mut [f32]) -> Result<Found, Refusal> {
-    let Vectors { n, dim, bytes, metric } = vectors;
+    let Vectors { n, dim, bytes } = vectors;
     let Scratch { words, floats } = scratch;
     // SAFETY: address and length are those of slices, and the borrows keep those that are written apart.
     let answer = unsafe {
@@ -279,7 +246,6 @@ pub fn search(vectors: Vectors, table: Table, wanted: Wanted, query: &[u8], scra
             dim,
             bytes.as_ptr(),
             bytes.len(),
-            metric as u32,
             table.degree,
             wanted.beam,
             wanted.k,
@@ -306,7 +272,7 @@ pub fn search(vectors: Vectors, table: Table, wanted: Wanted, query: &[u8], scra
 ///
 /// Scratch: [`search_room`]; each output [`most_answers`]. Numbers 1, 2, 3, 4, 6, 8, 10, 11.
 pub fn lookup(vectors: Vectors, table: Table, wanted: Wanted, query: &[u8], scratch: Scratch, ids: &mut [u32], dists: &mut [f32]) -> Result<Found, Refusal> {
-    let Vectors { n, dim, bytes, metric } = vectors;
+    let Vectors { n, dim, bytes } = vectors;
     let Scratch { words, floats } = scratch;
     // SAFETY: address and length are those of slices, and the borrows keep those that are written apart.
     let answer = unsafe {
@@ -315,7 +281,6 @@ pub fn lookup(vectors: Vectors, table: Table, wanted: Wanted, query: &[u8], scra
             dim,
             bytes.as_ptr(),
             bytes.len(),
-            metric as u32,
             table.degree,
             wanted.beam,
             wanted.k,
@@ -357,7 +322,7 @@ pub fn search_records(
     dists: &mut [f32],
     run: &mut [Candidate],
 ) -> Result<Found, Refusal> {
-    let Vectors { n, dim, bytes, metric } = vectors;
+    let Vectors { n, dim, bytes } = vectors;
     let Scratch { words, floats } = scratch;
     // SAFETY: address and length are those of slices, and the borrows keep those that are written apart.
     let answer = unsafe {
@@ -366,7 +331,6 @@ pub fn search_records(
             dim,
             bytes.as_ptr(),
             bytes.len(),
-            metric as u32,
             table.degree,
             wanted.beam,
             wanted.k,

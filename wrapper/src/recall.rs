@@ -31,7 +31,7 @@ impl Report {
 ///
 /// Each output: [`most_nearest`](crate::most_nearest). Numbers 1, 2, 10, 11, 14.
 pub fn exhaustive(vectors: Vectors, k: usize, query: &[u8], ids: &mut [u32], dists: &mut [f32]) -> Result<usize, Refusal> {
-    let Vectors { n, dim, bytes, metric } = vectors;
+    let Vectors { n, dim, bytes } = vectors;
     // SAFETY: address and length are those of slices, and the borrows keep those that are written apart.
     let answer = unsafe {
         ffi::fjalgrout_exhaustive(
@@ -39,7 +39,6 @@ pub fn exhaustive(vectors: Vectors, k: usize, query: &[u8], ids: &mut [u32], dis
             dim,
             bytes.as_ptr(),
             bytes.len(),
-            metric as u32,
             k,
             query.as_ptr(),
             query.len(),
@@ -58,7 +57,7 @@ pub fn exhaustive(vectors: Vectors, k: usize, query: &[u8], ids: &mut [u32], dis
 ///
 /// Scratch: [`report_room`](crate::report_room). Numbers 1, 2, 3, 4, 6, 8, 10, 11, 14.
 pub fn report(vectors: Vectors, table: Table, wanted: Wanted, queries: &[u8], scratch: Scratch) -> Result<Report, Refusal> {
-    let Vectors { n, dim, bytes, metric } = vectors;
+    let Vectors { n, dim, bytes } = vectors;
     let Scratch { words, floats } = scratch;
     // SAFETY: address and length are those of slices, and the borrows keep those that are written apart.
     let told = unsafe {
@@ -67,7 +66,6 @@ pub fn report(vectors: Vectors, table: Table, wanted: Wanted, queries: &[u8], sc
             dim,
             bytes.as_ptr(),
             bytes.len(),
-            metric as u32,
             table.degree,
             wanted.beam,
             wanted.k,

@@ -1,29 +1,23 @@
 //! The cases of docs/01-scope.md that a public call shows, with their outcomes; those of recall, 1/13; of equal distances, as 3/13 lists them; of saturated
-//! samples, 5/13; of both metrics, 8/13; and a search's counts, 10/13.
+//! samples, 5/13; and a search's counts, 10/13.
 
 mod lent;
 
-use fjalgrout::Metric::{self, Absolute, Squared};
 use fjalgrout::{batch, build, build_room, distance, medoid, slack, Generator, Params, Refusal, Report, Scratch, PADDING};
 use lent::{line_nearest, line_search, reported, vectors, Nearest, Search, LINE};
 
 #[test]
 fn distances() {
-    assert_eq!(distance(&[0], &[254], Squared), Ok(64_516.0));
-    assert_eq!(distance(&[0; 256], &[254; 256], Squared), Ok(16_516_096.0));
-    assert_eq!(distance(&[0], &[254], Absolute), Ok(254.0));
-    assert_eq!(distance(&[0; 256], &[254; 256], Absolute), Ok(65_024.0));
-    assert_eq!(distance(&[3, 9, 4], &[7, 2, 4], Absolute), Ok(11.0));
-    for metric in [Squared, Absolute] {
-        assert_eq!(distance(&[0; 257], &[254; 257], metric), Err(Refusal(1)));
-    }
+    assert_eq!(distance(&[0], &[254]), Ok(64_516.0));
+    assert_eq!(distance(&[0; 256], &[254; 256]), Ok(16_516_096.0));
+    assert_eq!(distance(&[0; 257], &[254; 257]), Err(Refusal(1)));
 }
 
-/// By either metric a sample that is 255 in one of the two vectors adds nothing, wherever it stands; the others add what they did.
-fn saturated_samples(metric: Metric, four: f32, most: f32) {
-    let distance = |a: &[u8], b: &[u8]| distance(a, b, metric);
+/// A sample that is 255 in either vector adds nothing, wherever it stands; the others add what they did.
+#[test]
+fn saturated_samples() {
     assert_eq!(distance(&[0], &[255]), Ok(0.0));
-    assert_eq!(distance(&[0, 3, 255], &[255, 7, 9]), Ok(four));
+    assert_eq!(distance(&[0, 3, 255], &[255, 7, 9]), Ok(16.0));
     assert_eq!(distance(&[255; 256], &[0; 256]), Ok(0.0));
     for dim in [1, 15, 16, 17, 31, 32, 64, 100, 256] {
         for place in 0..dim {
@@ -36,33 +30,10 @@ fn saturated_samples(metric: Metric, four: f32, most: f32) {
             assert_eq!(distance(&with(255, 0), &vec![1; dim]), Ok(rest));
             assert_eq!(distance(&vec![0; dim], &with(255, 1)), Ok(rest));
             assert_eq!(distance(&with(255, 0), &with(255, 1)), Ok(rest));
-            assert_eq!(distance(&vec![0; dim], &with(254, 1)), Ok(rest + most));
+            assert_eq!(distance(&vec![0; dim], &with(254, 1)), Ok(rest + 64_516.0));
         }
     }
-    let clipped = Search {
-        metric,
-        ..line_search(255, 4, 4)
-    };
-    assert_eq!(clipped.answers(), Ok(vec![(3, 0.0), (2, 0.0), (1, 0.0), (0, 0.0)]));
-}
-
-#[test]
-fn saturated_samples_squared() {
-    saturated_samples(Squared, 16.0, 64_516.0);
-}
-
-#[test]
-fn saturated_samples_absolute() {
-    saturated_samples(Absolute, 4.0, 254.0);
-}
-
-#[test]
-fn the_default_metric() {
-    assert_eq!(Metric::default(), Squared);
-    assert_eq!((Metric::try_from(0), Metric::try_from(1)), (Ok(Squared), Ok(Absolute)));
-    for number in [2, 3, u32::MAX] {
-        assert_eq!(Metric::try_from(number), Err(Refusal(18)));
-    }
+    assert_eq!(line_search(255, 4, 4).answers(), Ok(vec![(3, 0.0), (2, 0.0), (1, 0.0), (0, 0.0)]));
 }
 
 #[test]
@@ -73,64 +44,6 @@ fn the_line() {
     assert_eq!(line_search(38, 8, 8).answers(), Ok(vec![(3, 4.0), (2, 64.0), (1, 324.0), (0, 784.0)]));
     assert_eq!(line_search(25, 4, 4).answers(), Ok(vec![(2, 25.0), (1, 25.0), (3, 225.0), (0, 225.0)]));
     assert_eq!(line_search(38, 2, 0).answers(), Ok(vec![]));
-}
-
-/// The same walks by the absolute metric: on the line its order is that of the squared one.
-#[test]
-fn the_line_by_absolute_differences() {
-    let search = |query, beam, k| Search {
-        metric: Absolute,
-        ..line_search(query, beam, k)
-    };
-    assert_eq!(search(38, 2, 2).answers(), Ok(vec![(3, 2.0), (2, 8.0)]));
-    assert_eq!(search(38, 1, 2).answers_in(1), Ok(vec![(0, 28.0)]));
-    assert_eq!(search(38, 8, 8).answers_in(8), Ok(vec![(3, 2.0), (2, 8.0), (1, 18.0), (0, 28.0)]));
-    assert_eq!(search(25, 4, 4).answers(), Ok(vec![(2, 5.0), (1, 5.0), (3, 15.0), (0, 15.0)]));
-    assert_eq!(search(25, 4, 4).counts(), (3, 4));
-    let nearest = Nearest {
-        metric: Absolute,
-        ..line_nearest(25, 3)
-    };
-    assert_eq!(nearest.answers(), Ok(vec![(2, 5.0), (1, 5.0), (3, 15.0)]));
-}
-
-/// Entry 1 has one spike, entry 2 is a little off in every sample. By squares the spike decides.
-const SPIKE: [u8; 12] = [90, 90, 90, 90, 10, 10, 10, 40, 20, 20, 20, 20];
-
-fn spike(metric: Metric, beam: usize, k: usize) -> Search {
-    Search {
-        n: 3,
-        dim: 4,
-        bytes: SPIKE.to_vec(),
-        metric,
-        rows: vec![1, 2, 0, 2, 0, 1],
-        query: vec![10; 4],
-        ..line_search(0, beam, k)
-    }
-}
-
-#[test]
-fn one_spike() {
-    let all = [
-        (Squared, [(2, 400.0), (1, 900.0), (0, 25_600.0)]),
-        (Absolute, [(1, 30.0), (2, 40.0), (0, 320.0)]),
-    ];
-    for (metric, answers) in all {
-        for k in 1..=3 {
-            assert_eq!(spike(metric, 3, k).answers_in(3), Ok(answers[..k].to_vec()));
-            assert_eq!(spike(metric, 3, k).answers(), Ok(answers[..k].to_vec()));
-            let nearest = Nearest {
-                n: 3,
-                dim: 4,
-                bytes: SPIKE.to_vec(),
-                metric,
-                query: vec![10; 4],
-                ..line_nearest(0, k)
-            };
-            assert_eq!(nearest.answers(), Ok(answers[..k].to_vec()));
-            assert_eq!(reported(&spike(metric, 3, k)), counts(1, k, k, 1));
-        }
-    }
 }
 
 /// The line with its last entry moved to the query.
@@ -308,12 +221,10 @@ fn recall_is_a_share() {
     assert_eq!(reported(&none).unwrap().recall(), 1.0, "nothing was asked");
 }
 
-/// Scores 900, 500, 500, 900; by the absolute metric 30 each.
+/// Scores 900, 500, 500, 900.
 #[test]
 fn the_medoid_of_the_line() {
-    assert_eq!(medoid(vectors(4, 1, &LINE, Squared), &[0, 3]), Ok(1));
-    assert_eq!(medoid(vectors(4, 1, &LINE, Absolute), &[0, 3]), Ok(0));
-    assert_eq!(medoid(vectors(4, 1, &LINE, Absolute), &[1, 3, 2]), Ok(2));
+    assert_eq!(medoid(vectors(4, 1, &LINE), &[0, 3]), Ok(1));
 }
 
 #[test]
@@ -337,7 +248,7 @@ fn the_defaults() {
 
 /// The row that a batch of node 0 alone leaves, where its row named every other entry; degree 4. The merge sorts it by id, so that what pruning took is
 /// seen here, and not in which order.
-fn pruned(metric: Metric, n: usize, bytes: &[u8], alpha: f32) -> Vec<u32> {
+fn pruned(n: usize, bytes: &[u8], alpha: f32) -> Vec<u32> {
     let params = Params {
         degree: 4,
         beam: 0,
@@ -353,22 +264,18 @@ fn pruned(metric: Metric, n: usize, bytes: &[u8], alpha: f32) -> Vec<u32> {
         words: &mut words,
         floats: &mut floats,
     };
-    assert_eq!(batch(vectors(n, 2, bytes, metric), params, 0, &[0], &[], &mut wide, scratch), Ok(()));
+    assert_eq!(batch(vectors(n, 2, bytes), params, 0, &[0], &[], &mut wide, scratch), Ok(()));
     wide[..slack(4)].iter().copied().take_while(|&word| word != PADDING).collect()
 }
 
 #[test]
 fn pruning() {
     let four = [0, 0, 20, 0, 11, 18, 0, 30];
-    assert_eq!(pruned(Squared, 4, &four, 1.0), [1, 3]);
-    assert_eq!(pruned(Squared, 4, &four, 1.2), [1, 2, 3]);
-    assert_eq!(pruned(Squared, 4, &four, f32::NAN), [1, 3]);
-    assert_eq!(pruned(Squared, 4, &four, 0.5), [1, 3]);
-    assert_eq!(pruned(Squared, 3, &[0, 0, 10, 0, 5, 9], 1.0), [1, 2]);
-    // the quotient of entry 2 is 162 / 90, and by the absolute metric 18 / 12
-    let three = [0, 0, 0, 12, 9, 9];
-    assert_eq!((pruned(Squared, 3, &three, 1.6), pruned(Squared, 3, &three, 1.8)), (vec![1], vec![1, 2]));
-    assert_eq!((pruned(Absolute, 3, &three, 1.4), pruned(Absolute, 3, &three, 1.6)), (vec![1], vec![1, 2]));
+    assert_eq!(pruned(4, &four, 1.0), [1, 3]);
+    assert_eq!(pruned(4, &four, 1.2), [1, 2, 3]);
+    assert_eq!(pruned(4, &four, f32::NAN), [1, 3]);
+    assert_eq!(pruned(4, &four, 0.5), [1, 3]);
+    assert_eq!(pruned(3, &[0, 0, 10, 0, 5, 9], 1.0), [1, 2]);
 }
 
 fn one_entry(alpha: f32, extra: usize) -> Result<Vec<u32>, Refusal> {
@@ -385,7 +292,7 @@ fn one_entry(alpha: f32, extra: usize) -> Result<Vec<u32>, Refusal> {
         floats: &mut floats,
     };
     build(
-        vectors(1, 1, &[9], Squared),
+        vectors(1, 1, &[9]),
         params,
         0,
         &[0],

@@ -2,13 +2,13 @@
 
 mod lent;
 
-use fjalgrout::{distance, medoid, Generator, Metric, Params, PADDING};
+use fjalgrout::{distance, medoid, Generator, Params, PADDING};
 use lent::{line_build, line_search, reported, vectors, Build, Nearest, Search};
 
 const DIM: usize = 16;
 
 /// Crossings around ten centres, and a build over them, all from one generator.
-fn drawn_build(n: usize, metric: Metric, params: Params, seed: u64) -> Build {
+fn drawn_build(n: usize, params: Params, seed: u64) -> Build {
     let mut generator = Generator::new(seed);
     let centres: Vec<u32> = (0..10 * DIM).map(|_| generator.draw(236)).collect();
     let bytes: Vec<u8> = (0..n * DIM)
@@ -16,7 +16,7 @@ fn drawn_build(n: usize, metric: Metric, params: Params, seed: u64) -> Build {
         .collect();
     let (mut pivots, mut order, mut seeds, mut opening) = ([0; 8], vec![0; n], vec![0; n * params.extra], vec![0; n * params.degree]);
     generator.pivots(n, &mut pivots).unwrap();
-    let start = medoid(vectors(n, DIM, &bytes, metric), &pivots).unwrap();
+    let start = medoid(vectors(n, DIM, &bytes), &pivots).unwrap();
     generator.order(n, &mut order).unwrap();
     for group in seeds.chunks_mut(params.extra) {
         generator.seeds(n, start, params.extra, group).unwrap();
@@ -26,7 +26,6 @@ fn drawn_build(n: usize, metric: Metric, params: Params, seed: u64) -> Build {
         n,
         dim: DIM,
         bytes,
-        metric,
         params,
         start,
         order,
@@ -48,9 +47,8 @@ fn is_lawful(n: usize, degree: usize, table: &[u32]) -> bool {
 }
 
 /// Every answer by distance, then the higher id, from a walk over all entries.
-fn all_answers(build: &Build, query: &[u8]) -> Vec<(u32, f32)> {
-    let far = |v| distance(v, query, build.metric).unwrap();
-    let mut answers: Vec<_> = build.bytes.chunks(DIM).enumerate().map(|(i, v)| (i as u32, far(v))).collect();
+fn all_answers(bytes: &[u8], query: &[u8]) -> Vec<(u32, f32)> {
+    let mut answers: Vec<_> = bytes.chunks(DIM).enumerate().map(|(i, v)| (i as u32, distance(v, query).unwrap())).collect();
     answers.sort_by(|a, b| a.1.total_cmp(&b.1).then(b.0.cmp(&a.0)));
     answers
 }
@@ -75,7 +73,6 @@ fn search_of(build: &Build, rows: &[u32], beam: usize, k: usize, query: Vec<u8>)
         n: build.n,
         dim: DIM,
         bytes: build.bytes.clone(),
-        metric: build.metric,
         degree: build.params.degree,
         beam,
         k,
@@ -94,7 +91,8 @@ fn the_line_is_built_and_searched() {
     assert_eq!(search.answers(), Ok(vec![(3, 4.0), (2, 64.0), (1, 324.0), (0, 784.0)]));
 }
 
-fn finds_the_nearest(metric: Metric) -> Vec<u32> {
+#[test]
+fn a_built_table_finds_the_nearest() {
     let params = Params {
         degree: 12,
         beam: 32,
@@ -102,29 +100,18 @@ fn finds_the_nearest(metric: Metric) -> Vec<u32> {
         ..Params::default()
     };
     let (n, seed) = (600, 7);
-    let build = drawn_build(n, metric, params, seed);
+    let build = drawn_build(n, params, seed);
     let rows = build.table().unwrap();
     assert!(is_lawful(n, params.degree, &rows));
-    assert_eq!(
-        drawn_build(n, metric, params, seed).table().unwrap(),
-        rows,
-        "the same draws give the same table"
-    );
+    assert_eq!(drawn_build(n, params, seed).table().unwrap(), rows, "the same draws give the same table");
     for query in queries(&build) {
         let search = search_of(&build, &rows, 64, 5, query.clone());
-        let (found, all) = (search.answers().unwrap(), all_answers(&build, &query));
+        let (found, all) = (search.answers().unwrap(), all_answers(&build.bytes, &query));
         assert_eq!(found.len(), 5);
         assert!(is_listed(&found));
         assert!(found.iter().all(|answer| all.contains(answer)), "each answer has its own distance");
         assert_eq!(found[0], all[0], "the nearest");
     }
-    rows
-}
-
-#[test]
-fn a_built_table_finds_the_nearest() {
-    let tables = [Metric::Squared, Metric::Absolute].map(finds_the_nearest);
-    assert_ne!(tables[0], tables[1], "another metric, another table");
 }
 
 fn nearest_of(build: &Build, k: usize, query: Vec<u8>) -> Nearest {
@@ -132,7 +119,6 @@ fn nearest_of(build: &Build, k: usize, query: Vec<u8>) -> Nearest {
         n: build.n,
         dim: DIM,
         bytes: build.bytes.clone(),
-        metric: build.metric,
         k,
         query,
         short: [0; 2],
@@ -148,14 +134,14 @@ fn equals_of_a_built_table() {
         extra: 1,
         ..Params::default()
     };
-    let mut build = drawn_build(200, Metric::Squared, params, 5);
+    let mut build = drawn_build(200, params, 5);
     build.bytes.iter_mut().for_each(|sample| *sample %= 2);
     let rows = build.table().unwrap();
     let mut divided = 0;
     for query in queries(&build) {
         let found = search_of(&build, &rows, 64, 64, query.clone()).answers().unwrap();
         assert!(is_listed(&found));
-        let all = all_answers(&build, &query);
+        let all = all_answers(&build.bytes, &query);
         for k in 1..found.len() {
             assert_eq!(search_of(&build, &rows, 64, k, query.clone()).answers().unwrap(), found[..k]);
             assert_eq!(nearest_of(&build, k, query.clone()).answers().unwrap(), all[..k]);
@@ -166,20 +152,21 @@ fn equals_of_a_built_table() {
 }
 
 /// A report's numbers are those of its searches and exhaustive searches, counted here; and an exhaustive search has the front of all answers.
-fn reports(metric: Metric) {
+#[test]
+fn a_report_of_a_built_table() {
     let params = Params {
         degree: 4,
         beam: 8,
         extra: 1,
         ..Params::default()
     };
-    let build = drawn_build(400, metric, params, 11);
+    let build = drawn_build(400, params, 11);
     let rows = build.table().unwrap();
     for (beam, k) in [(1, 1), (4, 10), (10, 10), (40, 10), (256, 256)] {
         let (mut found, mut whole) = (0, 0);
         for query in queries(&build) {
             let nearest = nearest_of(&build, k, query.clone()).answers().unwrap();
-            assert_eq!(nearest, all_answers(&build, &query)[..k]);
+            assert_eq!(nearest, all_answers(&build.bytes, &query)[..k]);
             let brought = search_of(&build, &rows, beam, k, query).answers().unwrap();
             let hits = brought.iter().filter(|answer| nearest.contains(answer)).count();
             found += hits;
@@ -188,29 +175,6 @@ fn reports(metric: Metric) {
         let told = reported(&search_of(&build, &rows, beam, k, queries(&build).concat())).unwrap();
         let many = queries(&build).len();
         assert_eq!((told.queries, told.asked, told.found, told.whole), (many, many * k, found, whole));
-    }
-}
-
-#[test]
-fn a_report_of_a_built_table() {
-    [Metric::Squared, Metric::Absolute].into_iter().for_each(reports);
-}
-
-/// A table carries no metric: searched by the other one it is as safe, and each answer has the distance of the search.
-#[test]
-fn a_table_of_the_other_metric() {
-    let params = Params {
-        degree: 8,
-        beam: 16,
-        ..Params::default()
-    };
-    let mut build = drawn_build(300, Metric::Absolute, params, 3);
-    let rows = build.table().unwrap();
-    build.metric = Metric::Squared;
-    for query in queries(&build) {
-        let found = search_of(&build, &rows, 32, 32, query.clone()).answers().unwrap();
-        let all = all_answers(&build, &query);
-        assert!(!found.is_empty() && is_listed(&found) && found.iter().all(|answer| all.contains(answer)));
     }
 }
 

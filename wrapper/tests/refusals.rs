@@ -2,29 +2,24 @@
 
 mod lent;
 
-use fjalgrout::Metric::{self, Absolute, Squared};
 use fjalgrout::{
-    build_room, distance, ffi, fit, medoid, most_answers, most_nearest, open, report_room, search_room, slack, Generator, Params, Refusal, Room, PADDING,
+    build_room, distance, fit, medoid, most_answers, most_nearest, open, report_room, search_room, slack, Generator, Params, Refusal, Room, PADDING,
 };
 use lent::{line_build, line_nearest, line_search, reported, vectors, Build, Call, Nearest, Search, LINE, LINE_ROWS, LINE_WIDE};
 
 #[test]
 fn distance_refuses() {
-    for metric in [Squared, Absolute] {
-        assert_eq!(distance(&[], &[], metric), Err(Refusal(1)));
-        assert_eq!(distance(&[0; 257], &[0], metric), Err(Refusal(1)));
-        assert_eq!(distance(&[0; 4], &[0; 5], metric), Err(Refusal(11)));
-    }
+    assert_eq!(distance(&[], &[]), Err(Refusal(1)));
+    assert_eq!(distance(&[0; 257], &[0]), Err(Refusal(1)));
+    assert_eq!(distance(&[0; 4], &[0; 5]), Err(Refusal(11)));
 }
 
 #[test]
 fn medoid_refuses() {
-    for metric in [Squared, Absolute] {
-        assert_eq!(medoid(vectors(4, 0, &LINE, metric), &[0]), Err(Refusal(1)));
-        assert_eq!(medoid(vectors(3, 1, &LINE, metric), &[0]), Err(Refusal(2)));
-        for pivots in [&[][..], &[0; 9], &[0, 4]] {
-            assert_eq!(medoid(vectors(4, 1, &LINE, metric), pivots), Err(Refusal(12)));
-        }
+    assert_eq!(medoid(vectors(4, 0, &LINE), &[0]), Err(Refusal(1)));
+    assert_eq!(medoid(vectors(3, 1, &LINE), &[0]), Err(Refusal(2)));
+    for pivots in [&[][..], &[0; 9], &[0, 4]] {
+        assert_eq!(medoid(vectors(4, 1, &LINE), pivots), Err(Refusal(12)));
     }
 }
 
@@ -250,105 +245,6 @@ fn batch_and_close_refuse() {
         assert_eq!(number(call, |b| b.short[3] = 1), 10);
     }
     assert_eq!(number(Call::Close, |b| b.short[1] = 1), 8);
-}
-
-/// The raw search of the line, which can be given a metric that is none.
-fn raw_search(metric: u32, beam: usize, start: u32) -> ffi::Answer {
-    let (mut words, mut floats, mut ids, mut dists) = ([7; 516], [7.0; 512], [7; 2], [7.0; 2]);
-    // SAFETY: address and length are those of arrays, and the borrows keep those that are written apart.
-    let answer = unsafe {
-        ffi::fjalgrout_search(
-            4,
-            1,
-            LINE.as_ptr(),
-            4,
-            metric,
-            2,
-            beam,
-            2,
-            start,
-            LINE_ROWS.as_ptr(),
-            8,
-            [38].as_ptr(),
-            1,
-            words.as_mut_ptr(),
-            516,
-            floats.as_mut_ptr(),
-            512,
-            ids.as_mut_ptr(),
-            2,
-            dists.as_mut_ptr(),
-            2,
-        )
-    };
-    let kept = (words, floats, ids, dists) == ([7; 516], [7.0; 512], [7; 2], [7.0; 2]);
-    assert_eq!(kept, answer.number != 0, "a refused call changes nothing");
-    answer
-}
-
-/// The raw close of the line, whose wide table may have a word too few.
-fn raw_close(metric: u32, alpha: f32, wide: usize) -> u32 {
-    let params = ffi::Params {
-        degree: 2,
-        beam: 8,
-        alpha,
-        metric,
-        extra: 1,
-    };
-    let (mut closed, mut words, mut floats) = ([7; 8], vec![7; build_room(4).words], vec![7.0; build_room(4).floats]);
-    // SAFETY: address and length are those of slices, and the borrows keep those that are written apart.
-    let answer = unsafe {
-        ffi::fjalgrout_close(
-            4,
-            1,
-            LINE.as_ptr(),
-            4,
-            params,
-            LINE_WIDE.as_ptr(),
-            wide,
-            closed.as_mut_ptr(),
-            8,
-            words.as_mut_ptr(),
-            words.len(),
-            floats.as_mut_ptr(),
-            floats.len(),
-        )
-    };
-    let kept = closed == [7; 8] && words.iter().all(|&word| word == 7) && floats.iter().all(|&float| float == 7.0);
-    assert_eq!(kept, answer.number != 0, "a refused call changes nothing");
-    answer.number
-}
-
-/// 18: no safe function can be given a metric that is none. By the raw calls it has its place after 4 and 5, and before 6, 8, 11 and 12.
-#[test]
-fn a_metric_that_is_none() {
-    // SAFETY: address and length are those of arrays.
-    let distance = |a: &[u8], b: &[u8], metric| unsafe { ffi::fjalgrout_distance(a.as_ptr(), a.len(), b.as_ptr(), b.len(), metric) }.number;
-    let medoid = |dim, metric, pivots: &[u32]| unsafe { ffi::fjalgrout_medoid(4, dim, LINE.as_ptr(), 4, metric, pivots.as_ptr(), pivots.len()) }.number;
-    for metric in [2, 3, u32::MAX] {
-        assert_eq!(
-            (distance(&[0], &[1], metric), distance(&[0], &[], metric), distance(&[], &[1], metric)),
-            (18, 18, 1)
-        );
-        assert_eq!((medoid(1, metric, &[0]), medoid(1, metric, &[]), medoid(2, metric, &[0])), (18, 18, 2));
-        assert_eq!(
-            (
-                raw_search(metric, 2, 0).number,
-                raw_search(metric, 2, 4).number,
-                raw_search(metric, 257, 0).number
-            ),
-            (18, 18, 4)
-        );
-        assert_eq!(
-            (raw_close(metric, 1.2, 12), raw_close(metric, 1.2, 11), raw_close(metric, 4.5, 12)),
-            (18, 18, 5)
-        );
-    }
-    for metric in [Squared, Absolute].map(|metric: Metric| metric as u32) {
-        assert_eq!((distance(&[0], &[1], metric), distance(&[0], &[], metric), medoid(1, metric, &[])), (0, 11, 12));
-        assert_eq!((raw_search(metric, 2, 0).count, raw_search(metric, 2, 4).number), (2, 6));
-        assert_eq!((raw_close(metric, 1.2, 12), raw_close(metric, 1.2, 11)), (0, 8));
-    }
 }
 
 #[test]

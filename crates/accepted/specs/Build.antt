@@ -1,37 +1,34 @@
 -- What a batch, an open, a close and a whole build have that are accepted: their checks, as facts.
 use Rattle.std.specs.Prelude.{ℕ, ◌+◌, ◌*◌, ◌≤◌, ◌<◌, ◌≡◌, Bool, false, ◌||◌, length}
 use Rattle.definition.specs.Slack.{slack}
-use Rattle.definition.specs.Refusals.{◌when◌else◌, badDim, badVectors, badDegree, badBeam, badAlpha, badMetric, badStart, badSeeds, badLength, badTable}
-use Rattle.definition.specs.Refusals.{bad_order, short, buildWords, buildFloats}
+use Rattle.definition.specs.Refusals.{◌when◌else◌, badDim, badVectors, badDegree, badBeam, badAlpha, badStart, badSeeds, badLength, badTable, bad_order}
+use Rattle.definition.specs.Refusals.{short, buildWords, buildFloats}
 use Rattle.definition.specs.Refusals.{BatchCall, OpenCall, CloseCall, BuildCall, batchNumber, openNumber, closeNumber, buildNumber}
 use Rattle.laws.specs.Truth.{or-neither}
 use Rattle.theory.specs.Rule.{Ruled}
 use Rattle.accepted.specs.Chain.{passed}
-use Rattle.accepted.specs.Checks.{Entries, entries-good, count-good, Degree, degree-good, beam-good, AlphaLow, alpha-good, metric-good, start-good}
-use Rattle.accepted.specs.Checks.{Seeded, seeds-good, length-good, table-good, Listed, nodes-good, order-good, room-good}
+use Rattle.accepted.specs.Checks.{Entries, entries-good, count-good, Degree, degree-good, beam-good, AlphaLow, alpha-good, start-good, Seeded}
+use Rattle.accepted.specs.Checks.{seeds-good, length-good, table-good, Listed, nodes-good, order-good, room-good}
 
--- the first seven checks of batch and build are passed, and the later ones say 0
-record Seven (a b c d e f g : Bool) (r : ℕ) : Type 0 where
+-- the first six checks of batch and build are passed, and the later ones say 0
+record Six (a b c d e f : Bool) (r : ℕ) : Type 0 where
   is-1 : a ≡ false
   is-2 : b ≡ false
   is-3 : c ≡ false
   is-4 : d ≡ false
   is-5 : e ≡ false
-  is-18 : f ≡ false
-  is-6 : g ≡ false
+  is-6 : f ≡ false
   rest : r ≡ 0
 
-seven : (a b c d e f g : Bool) (r : ℕ)
-    → (1 when a else 2 when b else 3 when c else 4 when d else 5 when e else 18 when f else 6 when g else r) ≡ 0 → Seven a b c d e f g r
-seven a b c d e f g r h =
+six : (a b c d e f : Bool) (r : ℕ) → (1 when a else 2 when b else 3 when c else 4 when d else 5 when e else 6 when f else r) ≡ 0 → Six a b c d e f r
+six a b c d e f r h =
     let p₁ = passed 0 _ _ h in
     let p₂ = passed 1 _ _ p₁.1 in
     let p₃ = passed 2 _ _ p₂.1 in
     let p₄ = passed 3 _ _ p₃.1 in
     let p₅ = passed 4 _ _ p₄.1 in
-    let p₁₈ = passed 17 _ _ p₅.1 in
-    let p₆ = passed 5 _ _ p₁₈.1 in
-    record { is-1 = p₁.0; is-2 = p₂.0; is-3 = p₃.0; is-4 = p₄.0; is-5 = p₅.0; is-18 = p₁₈.0; is-6 = p₆.0; rest = p₆.1 }
+    let p₆ = passed 5 _ _ p₅.1 in
+    record { is-1 = p₁.0; is-2 = p₂.0; is-3 = p₃.0; is-4 = p₄.0; is-5 = p₅.0; is-6 = p₆.0; rest = p₆.1 }
 
 -- ---- batch
 
@@ -40,7 +37,6 @@ pub record BatchAccepted (c : BatchCall) : Type 0 where
   pub degree : Degree c.params.degree
   pub beam-few : c.params.beam ≤ 256
   pub alpha-low : AlphaLow c.params.alpha
-  pub metric-known : c.params.metric ≤ 1
   pub start-in : c.start < c.n
   pub seeds : Seeded c.n c.params.extra c.start (length c.nodes) c.seeds
   pub wide : Ruled c.n (slack c.params.degree) c.wide
@@ -52,7 +48,7 @@ pub record BatchAccepted (c : BatchCall) : Type 0 where
 pub batch-accepted : (c : BatchCall) → batchNumber c ≡ 0 → BatchAccepted c
 unfolding batchNumber
 batch-accepted c e =
-    let p = seven _ _ _ _ _ _ _ _ e in
+    let p = six _ _ _ _ _ _ _ e in
     let p₇ = passed 6 _ _ p.rest in
     let p₈ = passed 7 _ _ p₇.1 in
     let p₉ = passed 8 _ _ p₈.1 in
@@ -64,7 +60,6 @@ batch-accepted c e =
       degree = degree-good c.params.degree p.is-3;
       beam-few = beam-good c.params.beam p.is-4;
       alpha-low = alpha-good c.params.alpha p.is-5;
-      metric-known = metric-good c.params.metric p.is-18;
       start-in = start-good c.n c.start p.is-6;
       seeds = seeds-good c.n c.params.extra c.start (length c.nodes) c.seeds p₇.0;
       wide = table-good c.n (slack c.params.degree) c.wide p₈.0;
@@ -105,7 +100,6 @@ pub record CloseAccepted (c : CloseCall) : Type 0 where
   pub entries : Entries c.n c.dim c.vectors
   pub degree : Degree c.params.degree
   pub alpha-low : AlphaLow c.params.alpha
-  pub metric-known : c.params.metric ≤ 1
   pub wide : Ruled c.n (slack c.params.degree) c.wide
   pub closed_is : length c.closed ≡ c.n * c.params.degree
   pub word_room : 6 * c.n + 32768 ≤ length c.words
@@ -118,8 +112,7 @@ close-accepted c e =
     let p₂ = passed 1 _ _ p₁.1 in
     let p₃ = passed 2 _ _ p₂.1 in
     let p₅ = passed 4 _ _ p₃.1 in
-    let p₁₈ = passed 17 _ _ p₅.1 in
-    let p₈ = passed 7 _ _ p₁₈.1 in
+    let p₈ = passed 7 _ _ p₅.1 in
     let p₁₀ = passed 9 _ _ p₈.1 in
     let width = slack c.params.degree in
     let tables = or-neither (badTable c.n width c.wide) (badLength c.n c.params.degree c.closed) p₈.0 in
@@ -128,7 +121,6 @@ close-accepted c e =
       entries = entries-good c.n c.dim c.vectors p₁.0 p₂.0;
       degree = degree-good c.params.degree p₃.0;
       alpha-low = alpha-good c.params.alpha p₅.0;
-      metric-known = metric-good c.params.metric p₁₈.0;
       wide = table-good c.n width c.wide tables.0;
       closed_is = length-good c.n c.params.degree c.closed tables.1;
       word_room = room.0;
@@ -143,7 +135,6 @@ pub record BuildPasses (c : BuildCall) : Type 0 where
   pub degree : badDegree c.params.degree ≡ false
   pub beam : badBeam c.params.beam ≡ false
   pub alpha : badAlpha c.params.alpha ≡ false
-  pub metric : badMetric c.params.metric ≡ false
   pub start : badStart c.n c.start ≡ false
   pub seeds : badSeeds c.n c.params.extra c.start c.n c.seeds ≡ false
   pub opening : badTable c.n c.params.degree c.opening ≡ false
@@ -155,7 +146,7 @@ pub record BuildPasses (c : BuildCall) : Type 0 where
 pub build-passes : (c : BuildCall) → buildNumber c ≡ 0 → BuildPasses c
 unfolding buildNumber
 build-passes c e =
-    let p = seven _ _ _ _ _ _ _ _ e in
+    let p = six _ _ _ _ _ _ _ e in
     let p₇ = passed 6 _ _ p.rest in
     let p₈ = passed 7 _ _ p₇.1 in
     let p₉ = passed 8 _ _ p₈.1 in
@@ -170,7 +161,6 @@ build-passes c e =
       degree = p.is-3;
       beam = p.is-4;
       alpha = p.is-5;
-      metric = p.is-18;
       start = p.is-6;
       seeds = p₇.0;
       opening = tables.0;
@@ -185,7 +175,6 @@ pub record BuildAccepted (c : BuildCall) : Type 0 where
   pub degree : Degree c.params.degree
   pub beam-few : c.params.beam ≤ 256
   pub alpha-low : AlphaLow c.params.alpha
-  pub metric-known : c.params.metric ≤ 1
   pub start-in : c.start < c.n
   pub seeds : Seeded c.n c.params.extra c.start c.n c.seeds
   pub opening : Ruled c.n c.params.degree c.opening
@@ -206,7 +195,6 @@ build-accepted c e =
       degree = degree-good c.params.degree p.degree;
       beam-few = beam-good c.params.beam p.beam;
       alpha-low = alpha-good c.params.alpha p.alpha;
-      metric-known = metric-good c.params.metric p.metric;
       start-in = start-good c.n c.start p.start;
       seeds = seeds-good c.n c.params.extra c.start c.n c.seeds p.seeds;
       opening = table-good c.n c.params.degree c.opening p.opening;

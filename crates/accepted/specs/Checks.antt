@@ -9,8 +9,8 @@ use Rattle.std.specs.Float.Ieee.{up, down, lt, of_bits}
 use Rattle.definition.specs.Lists.{each, distinct, groups}
 use Rattle.definition.specs.Tables.{pad, buildRule, searchRule, cleaned}
 use Rattle.definition.specs.Floats.{one, four, above}
-use Rattle.definition.specs.Refusals.{badDim, badCount, badVectors, badDegree, badBeam, badAlpha, badMetric, badStart, badExtra, goodGroup, badSeeds}
-use Rattle.definition.specs.Refusals.{badLength, badTable, badSearched, badNodes, bad_order, short, buildWords, buildFloats, badPivots}
+use Rattle.definition.specs.Refusals.{badDim, badCount, badVectors, badDegree, badBeam, badAlpha, badStart, badExtra, goodGroup, badSeeds, badLength, badTable}
+use Rattle.definition.specs.Refusals.{badSearched, badNodes, bad_order, short, buildWords, buildFloats, badPivots}
 use Rattle.laws.specs.Truth.{and_both, or-neither, neither-or}
 use Rattle.laws.specs.Members.{each-mem, mem-each, mem-groups}
 use Rattle.laws.specs.Cleaned.{length-cleaned, cleaned-rule}
@@ -53,7 +53,7 @@ entries-good n dim vectors e f =
     let v = vectors-good n dim vectors f in
     record { dim-some = d.0; dim-few = d.1; nodes-some = v.0; nodes = v.1; vectors-are = v.2 }
 
--- ---- 3 to 5, 18 and 6
+-- ---- 3 to 6
 
 pub record Degree (degree : ℕ) : Type 0 where
   pub some : 1 ≤ degree
@@ -86,10 +86,6 @@ alpha-one (inf true) h = refl
 alpha-one (inf false) h = absurd (true≢false h)
 alpha-one (fin true m e) h = refl
 alpha-one (fin false m e) h = let k = ltb-false (1 * down e) (m * up e * 1) h in le-ltb (4 * down e) (m * up e * 1) (omega arith)
-
-pub metric-good : (metric : ℕ) → badMetric metric ≡ false → metric ≤ 1
-unfolding badMetric
-metric-good metric e = ltb-false 1 metric e
 
 pub start-good : (n start : ℕ) → badStart n start ≡ false → start < n
 unfolding badStart

@@ -3,12 +3,10 @@
 --   Checks     each check: what is known where it is passed, and what passes it
 --   Build      batch, open, close, whole build         Search     search, with a run of records or not, and a text of `seek`
 --   Medoid     medoid                                  Recall     exhaustive search, report, and each query of one
---   Distance   distance
 --   Numbers    a check that is passed is not the number returned
 pub mod Chain
 pub mod Outcomes
 pub mod Checks
-pub mod Distance
 pub mod Build
 pub mod Search
 pub mod Medoid

@@ -9,7 +9,7 @@ use Rattle.definition.specs.Outcome.{queryCount}
 use Rattle.laws.specs.Truth.{or-neither}
 use Rattle.theory.specs.Rule.{searchRule-searchable}
 use Rattle.accepted.specs.Chain.{passed}
-use Rattle.accepted.specs.Checks.{Entries, entries-good, Degree, degree-good, beam-good, metric-good, start-good, searched-good}
+use Rattle.accepted.specs.Checks.{Entries, entries-good, Degree, degree-good, beam-good, start-good, searched-good}
 use Rattle.accepted.specs.Search.{SearchAccepted}
 
 pub k-good : (k : ℕ) → badK k ≡ false → (1 ≤ k) × (k ≤ 256)
@@ -20,7 +20,6 @@ k-good k e = let s = or-neither (eqb k 0) (ltb 256 k) e in let z = eqb-false k 0
 
 pub record ExhaustiveAccepted (c : ExhaustiveCall) : Type 0 where
   pub entries : Entries c.n c.dim c.vectors
-  pub metric-known : c.metric ≤ 1
   pub id-room : min c.k c.n ≤ length c.ids
   pub dist-room : min c.k c.n ≤ length c.dists
   pub query-is : length c.query ≡ c.dim
@@ -32,15 +31,13 @@ unfolding exhaustiveNumber short
 exhaustive-accepted c e =
     let p₁ = passed 0 _ _ e in
     let p₂ = passed 1 _ _ p₁.1 in
-    let p₁₈ = passed 17 _ _ p₂.1 in
-    let p₁₀ = passed 9 _ _ p₁₈.1 in
+    let p₁₀ = passed 9 _ _ p₂.1 in
     let p₁₁ = passed 10 _ _ p₁₀.1 in
     let p₁₄ = passed 13 _ _ p₁₁.1 in
     let room = or-neither (ltb (length c.ids) (min c.k c.n)) _ p₁₀.0 in
     let k = k-good c.k p₁₄.0 in
     record {
       entries = entries-good c.n c.dim c.vectors p₁.0 p₂.0;
-      metric-known = metric-good c.metric p₁₈.0;
       id-room = ltb-false _ _ room.0;
       dist-room = ltb-false _ _ room.1;
       query-is = eqb-true (length c.query) c.dim (not-false _ p₁₁.0);
@@ -54,7 +51,6 @@ pub record ReportAccepted (c : ReportCall) : Type 0 where
   pub entries : Entries c.n c.dim c.vectors
   pub degree : Degree c.degree
   pub beam-few : c.beam ≤ 256
-  pub metric-known : c.metric ≤ 1
   pub start-in : c.start < c.n
   pub table_is : length c.table ≡ c.n * c.degree
   pub ruled : searchRule c.n c.table ≡ true
@@ -90,8 +86,7 @@ report-accepted c e =
     let p₂ = passed 1 _ _ p₁.1 in
     let p₃ = passed 2 _ _ p₂.1 in
     let p₄ = passed 3 _ _ p₃.1 in
-    let p₁₈ = passed 17 _ _ p₄.1 in
-    let p₆ = passed 5 _ _ p₁₈.1 in
+    let p₆ = passed 5 _ _ p₄.1 in
     let p₈ = passed 7 _ _ p₆.1 in
     let p₁₀ = passed 9 _ _ p₈.1 in
     let p₁₁ = passed 10 _ _ p₁₀.1 in
@@ -104,7 +99,6 @@ report-accepted c e =
       entries = entries-good c.n c.dim c.vectors p₁.0 p₂.0;
       degree = degree-good c.degree p₃.0;
       beam-few = beam-good c.beam p₄.0;
-      metric-known = metric-good c.metric p₁₈.0;
       start-in = start-good c.n c.start p₆.0;
       table_is = table.0;
       ruled = table.1;
@@ -125,7 +119,6 @@ searchOf c query words floats ids dists =
       n = c.n;
       dim = c.dim;
       vectors = c.vectors;
-      metric = c.metric;
       degree = c.degree;
       beam = c.beam;
       k = c.k;
@@ -140,7 +133,7 @@ searchOf c query words floats ids dists =
 
 abbrev pub exhaustiveOf : ReportCall → List ℕ → List ℕ → List Float → ExhaustiveCall
 exhaustiveOf c query ids dists =
-    record { n = c.n; dim = c.dim; vectors = c.vectors; metric = c.metric; k = c.k; query = query; ids = ids; dists = dists }
+    record { n = c.n; dim = c.dim; vectors = c.vectors; k = c.k; query = query; ids = ids; dists = dists }
 
 module _ (c : ReportCall) (a : ReportAccepted c) (query : List ℕ) (q : length query ≡ c.dim) where
   -- outputs of 256 places are enough
@@ -161,7 +154,6 @@ module _ (c : ReportCall) (a : ReportAccepted c) (query : List ℕ) (q : length 
         degree-some = a.degree.some;
         degree-few = a.degree.few;
         beam-few = a.beam-few;
-        metric-known = a.metric-known;
         start-in = a.start-in;
         table_is = a.table_is;
         ruled = a.ruled;
@@ -177,7 +169,6 @@ module _ (c : ReportCall) (a : ReportAccepted c) (query : List ℕ) (q : length 
   report-exhausts ids dists i d =
       record {
         entries = a.entries;
-        metric-known = a.metric-known;
         id-room = omega (arith, a.k-few);
         dist-room = omega (arith, a.k-few);
         query-is = q;

@@ -9,7 +9,7 @@ use Rattle.definition.specs.Metric.{fromQuery}
 use Rattle.definition.specs.Beam.{Item}
 use Rattle.definition.specs.Search.{searched, answers}
 use Rattle.definition.specs.Refusals.{SearchCall, short, searchWords, searchFloats, mostAnswers, searchShort, searchNumberAt, searchNumber, recordsNumber}
-use Rattle.definition.specs.Outcome.{searchSpace, found, cleanedCall}
+use Rattle.definition.specs.Outcome.{found, cleanedCall}
 use Rattle.definition.specs.Seek.{values, malformed, seekCall, seekNumber}
 use Rattle.laws.specs.Truth.{or-neither}
 use Rattle.laws.specs.Tables.{row-mem}
@@ -19,7 +19,7 @@ use Rattle.theory.specs.Rule.{searchRule-mem, searchRule-searchable}
 use Rattle.theory.specs.search.Ground.{Ground}
 use Rattle.theory.specs.search.Ranked.{ranked-own}
 use Rattle.accepted.specs.Chain.{passed}
-use Rattle.accepted.specs.Checks.{dim-good, vectors-good, degree-good, beam-good, metric-good, start-good, searched-good}
+use Rattle.accepted.specs.Checks.{dim-good, vectors-good, degree-good, beam-good, start-good, searched-good}
 
 -- `ruled` and `rows` say the search rule, as the test and word by word
 pub record SearchAccepted (c : SearchCall) : Type 0 where
@@ -31,7 +31,6 @@ pub record SearchAccepted (c : SearchCall) : Type 0 where
   pub degree-some : 1 ≤ c.degree
   pub degree-few : c.degree ≤ 64
   pub beam-few : c.beam ≤ 256
-  pub metric-known : c.metric ≤ 1
   pub start-in : c.start < c.n
   pub table_is : length c.table ≡ c.n * c.degree
   pub ruled : searchRule c.n c.table ≡ true
@@ -66,8 +65,7 @@ number-accepted tooShort c alone e =
     let p₂ = passed 1 _ _ p₁.1 in
     let p₃ = passed 2 _ _ p₂.1 in
     let p₄ = passed 3 _ _ p₃.1 in
-    let p₁₈ = passed 17 _ _ p₄.1 in
-    let p₆ = passed 5 _ _ p₁₈.1 in
+    let p₆ = passed 5 _ _ p₄.1 in
     let p₈ = passed 7 _ _ p₆.1 in
     let p₁₀ = passed 9 _ _ p₈.1 in
     let p₁₁ = passed 10 _ _ p₁₀.1 in
@@ -85,7 +83,6 @@ number-accepted tooShort c alone e =
         degree-some = degree.some;
         degree-few = degree.few;
         beam-few = beam-good c.beam p₄.0;
-        metric-known = metric-good c.metric p₁₈.0;
         start-in = start-good c.n c.start p₆.0;
         table_is = table.0;
         ruled = table.1;
@@ -112,7 +109,6 @@ cleaned-call c rule =
       n = c.n;
       dim = c.dim;
       vectors = c.vectors;
-      metric = c.metric;
       degree = c.degree;
       beam = c.beam;
       k = c.k;
@@ -130,7 +126,7 @@ module _ (c : SearchCall) (a : SearchAccepted c) where
   abbrev pub ground : Ground
   ground =
       record {
-        d = fromQuery (searchSpace c) c.query;
+        d = fromQuery c.dim c.vectors c.query;
         rows = row c.degree c.table;
         n = c.n;
         beam = max c.beam 1;
@@ -139,7 +135,7 @@ module _ (c : SearchCall) (a : SearchAccepted c) where
         good = λ i w below m. searchRule-mem c.n c.table a.ruled w (row-mem c.degree c.table i m);
       }
 
-  pub search-answers : (x : Item) → Mem x (found c) → (x.dist ≡ fromQuery (searchSpace c) c.query x.id) × (x.id < c.n)
+  pub search-answers : (x : Item) → Mem x (found c) → (x.dist ≡ fromQuery c.dim c.vectors c.query x.id) × (x.id < c.n)
   unfolding found answers searched
   search-answers x m = ranked-own ground c.k x m
 

@@ -29,7 +29,7 @@ use Rattle.laws.specs.Rising.{rising-keeps, rising-asc, asc-apart}
 use Rattle.whole.specs.Whole.{limit}
 use Rattle.scratch.specs.Layout.{poolAt, stampsAt, poolDistsAt, poolEnd, mostFactors, freshRowAt}
 use Rattle.scratch.specs.Lent.{Lent, lent}
-use Rattle.given.specs.Given.{Given, space_of, setting, WalkLimits}
+use Rattle.given.specs.Given.{Given, setting, WalkLimits}
 use Rattle.metric.specs.Exact.{VectorIn}
 use Rattle.metric.specs.Laws.{vector-in}
 use Rattle.prune_pool.specs.Says.{Distinct}
@@ -94,7 +94,7 @@ module _ {g : Given} {wide : List ℕ} {i : Insertion} {before at : List ℕ} {c
     (pooled : NodePool g wide i before at c) where
   -- the distances between entries, and the ids of the pool as they lie, and their distances
   abbrev far : ℕ → ℕ → ℕ
-  far = between (space_of g)
+  far = between g.dim g.vectors
 
   abbrev got : List ℕ
   got = take c.len (poolWordsOf g.n at)
@@ -102,7 +102,7 @@ module _ {g : Given} {wide : List ℕ} {i : Insertion} {before at : List ℕ} {c
   abbrev gotDists : List ℕ
   gotDists = take c.len (drop (2 * g.n) (poolWordsOf g.n at))
 
-  distance_is : between (space_of g) i.node ≡ fromNode g i.node
+  distance_is : between g.dim g.vectors i.node ≡ fromNode g i.node
   unfolding fromQuery between
   distance_is = refl
 
@@ -115,12 +115,12 @@ module _ {g : Given} {wide : List ℕ} {i : Insertion} {before at : List ℕ} {c
   dists-part : lentDists g.n c.len at ≡ gotDists
   dists-part = part-inner (poolAt g.n) (poolEnd g.n) (2 * g.n) (poolDistsAt g.n) c.len at (omega arith) (omega (arith, few))
 
-  measured-is : gotDists ≡ map (between (space_of g) i.node) got
+  measured-is : gotDists ≡ map (between g.dim g.vectors i.node) got
   measured-is = pooled.grown.added.measured (far i.node) distance_is refl
 
-  small : (xs : List ℕ) → All (λ (d : ℕ). d ≤ limit) (map (between (space_of g) i.node) xs)
+  small : (xs : List ℕ) → All (λ (d : ℕ). d ≤ limit) (map (between g.dim g.vectors i.node) xs)
   small [] = tt
-  small (j ∷ js) = (omega (arith, between-small (space_of g) limits.limits.dim-few bytes i.node j), small js)
+  small (j ∷ js) = (omega (arith, between-small g.dim g.vectors limits.limits.dim-few bytes i.node j), small js)
 
   ids-length : length got ≡ c.len
   ids-length = length-take-le c.len (poolWordsOf g.n at) (omega (arith, few, pooled.grown.holding.pooled.size))
@@ -130,21 +130,21 @@ module _ {g : Given} {wide : List ℕ} {i : Insertion} {before at : List ℕ} {c
       let there = poolWordsOf g.n at in
       length-take-le c.len (drop (2 * g.n) there) (omega (arith, few, length-drop (2 * g.n) there, pooled.grown.holding.pooled.size))
 
-  pool-measurable : Measurable (space_of g) (lentIds g.n c.len at) (lentDists g.n c.len at)
+  pool-measurable : Measurable g.dim g.vectors (lentIds g.n c.len at) (lentDists g.n c.len at)
   pool-measurable =
       rw (ids-part, dists-part)
       (record {
         same = ids-length ∙ sym dists-length;
         narrow = limits.limits.dim-few;
-        rows = all-mem (VectorIn (space_of g)) got
-            (λ j m. vector-in (space_of g) j limits.limits.vectors-are (pooled.grown.holding.pooled.below j m));
+        rows = all-mem (VectorIn g.dim g.vectors) got
+            (λ j m. vector-in g.dim g.vectors g.n j limits.limits.vectors-are (pooled.grown.holding.pooled.below j m));
         small = subst (All (λ (d : ℕ). d ≤ limit)) (sym measured-is) (small got);
       })
 
   pool-distinct : Distinct (lentIds g.n c.len at)
   pool-distinct = rw ids-part (apart_distinct pooled.grown.holding.pooled.once)
 
-  items-are : items_of (lentIds g.n c.len at) (lentDists g.n c.len at) ≡ measured (between (space_of g) i.node) got
+  items-are : items_of (lentIds g.n c.len at) (lentDists g.n c.len at) ≡ measured (between g.dim g.vectors i.node) got
   items-are = ap₂ items_of ids-part (dists-part ∙ measured-is) ∙ items-measured (far i.node) got
 
   -- all that went into the pool, by the definition
@@ -153,9 +153,9 @@ module _ {g : Given} {wide : List ℕ} {i : Insertion} {before at : List ℕ} {c
 
   -- the same plan, whose rows have w words
   abbrev plan_at : ℕ → Plan
-  plan_at w = record { n = g.n; dim = g.dim; metric = g.params.metric; width = w; beam = g.params.beam; keep = true }
+  plan_at w = record { n = g.n; dim = g.dim; width = w; beam = g.params.beam; keep = true }
 
-  ids-are : pooledIds (plan_at (slack g.params.degree)) (between (space_of g) i.node) wide i.node i.start i.seeds ≡ all
+  ids-are : pooledIds (plan_at (slack g.params.degree)) (between g.dim g.vectors i.node) wide i.node i.start i.seeds ≡ all
   unfolding pooledIds visits wideIds wideRow collected setting_of
   ids-are = refl
 

@@ -17,7 +17,7 @@ use Rattle.laws.specs.Paired.{items_of}
 use Rattle.laws.specs.Parts.{part, put, part_length, part-front-length, within_wider, put-part, put-within}
 use Rattle.scratch.specs.Layout.{poolAt, poolDistsAt, mostFactors, freshRowAt}
 use Rattle.scratch.specs.Lent.{Lent, lent}
-use Rattle.given.specs.Given.{Given, space_of}
+use Rattle.given.specs.Given.{Given}
 use Rattle.prune_pool.specs.Says.{Distinct}
 use Rattle.prune.specs.Says.{Measurable}
 use Rattle.table.specs.Rows.{Written, Stretched, row_here}
@@ -52,10 +52,10 @@ module _ {g : Given} {place len : ℕ} {at : Lent} (r : Prunable g place len at)
   ds-are : ds ≡ lentDists g.n len at.words
   ds-are = ap (λ (k : ℕ). part k (k + len) at.words) dists-is
 
-  pub lent-measurable : Measurable (space_of g) ids ds
+  pub lent-measurable : Measurable g.dim g.vectors ids ds
   lent-measurable =
-      subst (λ (l : List ℕ). Measurable (space_of g) l ds) (sym ids-are)
-      (subst (Measurable (space_of g) (lentIds g.n len at.words)) (sym ds-are) r.measurable)
+      subst (λ (l : List ℕ). Measurable g.dim g.vectors l ds) (sym ids-are)
+      (subst (Measurable g.dim g.vectors (lentIds g.n len at.words)) (sym ds-are) r.measurable)
 
   pub lent-apart : Distinct ids
   lent-apart = subst Distinct (sym ids-are) r.apart
@@ -65,12 +65,12 @@ module _ {g : Given} {place len : ℕ} {at : Lent} (r : Prunable g place len at)
 
   -- the row was made
   module _ (node : ℕ) (made : List ℕ) {k : ℕ}
-      (written : Written made k freshWidth (prune (between (space_of g)) g.params.degree g.params.alpha node (items_of ids ds))) where
+      (written : Written made k freshWidth (prune (between g.dim g.vectors) g.params.degree g.params.alpha node (items_of ids ds))) where
     made-is : made ≡ padded freshWidth (prunedFor g node len at.words)
     unfolding prunedFor
     made-is =
         written.words
-        ∙ ap (λ (l : List Item). padded freshWidth (prune (between (space_of g)) g.params.degree g.params.alpha node l))
+        ∙ ap (λ (l : List Item). padded freshWidth (prune (between g.dim g.vectors) g.params.degree g.params.alpha node l))
         (ap₂ items_of ids-are ds-are)
 
     -- and put down from `begin` on

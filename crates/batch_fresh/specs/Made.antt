@@ -11,7 +11,7 @@ use Rattle.laws.specs.Words.{Below}
 use Rattle.theory.specs.build.Walks.{Walk, nodeWalks}
 use Rattle.scratch.specs.Layout.{stampsAt, mostFactors, freshRowAt, freshEnd}
 use Rattle.scratch.specs.Lent.{Lent}
-use Rattle.given.specs.Given.{Given, space_of, setting}
+use Rattle.given.specs.Given.{Given, setting}
 use Rattle.given.specs.Listing.{Listing}
 use Rattle.given.specs.Fresh.{merging, fresh_row, listedIn}
 use Rattle.greedy.specs.declared.Plan.{Plan}
@@ -22,7 +22,7 @@ use Rattle.definition.specs.Metric.{vector, fromQuery}
 
 -- what the walks go by, which keep what they visit
 abbrev pub plan_of : Given → Plan
-plan_of g = record { n = g.n; dim = g.dim; metric = g.params.metric; width = g.width; beam = g.params.beam; keep = true }
+plan_of g = record { n = g.n; dim = g.dim; width = g.width; beam = g.params.beam; keep = true }
 
 -- the words between two nodes, of which p are done: no stamp is above p
 pub record Between (g : Given) (epoch p : ℕ) (words : List ℕ) : Type 0 where
@@ -60,7 +60,7 @@ freshFor g wide i = (fresh_of (setting g) wide i.start i.node i.seeds).fresh
 
 -- the distances from its own vector
 abbrev pub fromNode : Given → ℕ → ℕ → ℕ
-fromNode g node = fromQuery (space_of g) (vector g.dim g.vectors node)
+fromNode g node = fromQuery g.dim g.vectors (vector g.dim g.vectors node)
 
 -- its pool was collected, with its place's stamp
 pub record NodePool (g : Given) (wide : List ℕ) (i : Insertion) (before after : List ℕ) (c : Collected) : Type 0 where

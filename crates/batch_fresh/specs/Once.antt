@@ -84,7 +84,7 @@ pub between_start : {g : Given} {epoch : ℕ} {words : List ℕ} → WalkLimits 
 between_start {g} limits room marks stamps =
     record {
       room = record {
-        roomy = record { nodes = limits.limits.nodes; room = omega (arith, walk-end-all (plan_of g) refl); beam-le = limits.beam-few };
+        space = record { nodes = limits.limits.nodes; room = omega (arith, walk-end-all (plan_of g) refl); beam-le = limits.beam-few };
         marks = marks;
       };
       word_room = room;

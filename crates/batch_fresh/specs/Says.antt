@@ -8,7 +8,7 @@ use Rattle.laws.specs.Paired.{items_of}
 use Rattle.laws.specs.Parts.{part, Within}
 use Rattle.scratch.specs.Layout.{poolAt, poolDistsAt, mostFactors, freshRowAt, freshEnd}
 use Rattle.scratch.specs.Lent.{Lent}
-use Rattle.given.specs.Given.{Given, space_of}
+use Rattle.given.specs.Given.{Given}
 use Rattle.given.specs.Fresh.{fresh_row}
 use Rattle.prune_pool.specs.Says.{Distinct}
 use Rattle.prune.specs.Says.{Measurable}
@@ -28,13 +28,13 @@ pub record Prunable (g : Given) (place len : ℕ) (at : Lent) : Type 0 where
   pub degree-few : g.params.degree ≤ freshWidth
   pub word_room : freshEnd g.n ≤ length at.words
   pub float-room : mostFactors ≤ length at.floats
-  pub measurable : Measurable (space_of g) (lentIds g.n len at.words) (lentDists g.n len at.words)
+  pub measurable : Measurable g.dim g.vectors (lentIds g.n len at.words) (lentDists g.n len at.words)
   pub apart : Distinct (lentIds g.n len at.words)
 
 -- the ids that pruning takes from it
 unfoldable pub prunedFor : Given → ℕ → ℕ → List ℕ → List ℕ
 prunedFor g node len words =
-    prune (between (space_of g)) g.params.degree g.params.alpha node (items_of (lentIds g.n len words) (lentDists g.n len words))
+    prune (between g.dim g.vectors) g.params.degree g.params.alpha node (items_of (lentIds g.n len words) (lentDists g.n len words))
 
 -- they are the fresh row at `place`; besides it, only the factors differ
 pub record Fresh (n place : ℕ) (ids : List ℕ) (before after : Lent) : Type 0 where

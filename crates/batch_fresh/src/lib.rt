@@ -12,7 +12,6 @@ ghost use Rattle.batch_fresh.specs.Says.{Prunable, prunedFor, Fresh};
 use batch_pool::{Collected, collect_pool};
 use given::Ground;
 use greedy::Plan;
-use metric::Gauge;
 use prune::prune_neighbors;
 use table::put_row;
 
@@ -36,14 +35,9 @@ fn prune_fresh(
     let pool_end = pool + len;
     let dists = scratch::pool_dists_at(g.n);
     let dists_end = dists + len;
-    let gauge = Gauge {
-        n: g.n,
-        dim: g.dim,
-        metric: g.params.metric,
-    };
     prune_neighbors(
-        gauge,
         vectors,
+        g.dim,
         &words[pool..pool_end],
         &words[dists..dists_end],
         node,
@@ -86,7 +80,6 @@ fn node_pool(
         dim,
         width: g.slack,
         beam: g.params.beam,
-        metric: g.params.metric,
         keep: true,
     };
     let stamp = (p + 1) as u32;

@@ -44,7 +44,7 @@ module _ {p : Plan} {vectors query table : List ℕ} (w : Walkable p vectors que
   pub walked : Pooled n (poolOf n s₁) × (((n ≤ 65536) × (poolEnd n ≤ length after) × (r.visited ≤ n)) × SeenBelow n after r.visited)
   walked = (
     rw pool-same h.pooled,
-    ((h.room.roomy.nodes, walked-room, k.visited-le), seen_below p w.keeps table w.rows d start low k),
+    ((h.room.space.nodes, walked-room, k.visited-le), seen_below p w.keeps table w.rows d start low k),
   )
 
   pub grown-walk : {s : Stage} → Filled n s₁ s r.visited → Grown p r.epoch s₀ s (visits p d table start) d

@@ -10,7 +10,7 @@ use borrow.Rule.Slice.PartMut.{put_mid}
 use Rattle.laws.specs.Parts.{Within, part_length, part_at, within-at, within-trans, within_none, put-part, put-within}
 use Rattle.scratch.specs.Layout.{visitedAt, visitedEnd, visitedDistsAt, poolAt, poolEnd}
 use Rattle.greedy.specs.declared.Plan.{Plan}
-use Rattle.greedy.specs.Scratch.{roomy-kept, Room}
+use Rattle.greedy.specs.Scratch.{space-kept, Room}
 use Rattle.batch_pool.specs.Pooled.{poolAs, Pooled, Added}
 use Rattle.batch_pool.specs.Regions.{Stage, stage, poolWordsOf, poolOf, seenOf, Seen, Filled}
 use Rattle.batch_pool.proofs.Adding.{added_none, added_then}
@@ -31,7 +31,7 @@ module _ (n : ℕ) (s : Stage) (pool : List ℕ) (room : poolEnd n ≤ length s.
 pub room-kept : (p : Plan) (epoch end : ℕ) (a b : List ℕ) → Room p epoch a → Within (poolAt p.n) end a b → Room p epoch b
 room-kept p epoch end a b m w =
     record {
-      roomy = roomy-kept m.roomy w.size;
+      space = space-kept m.space w.size;
       marks = λ i h. subst (λ (k : ℕ). k ≤ epoch) (sym (within-at (poolAt p.n) end a b w i 0 (omega arith))) (m.marks i h);
     }
 

@@ -7,13 +7,11 @@ ghost use Rattle.definition.specs.Tables.{ids};
 ghost use Rattle.laws.specs.Words.{Searchable, Below};
 ghost use Rattle.theory.specs.build.Walks.{nodeWalks, epochAfter, epochEnd};
 ghost use Rattle.scratch.specs.Layout.{poolEnd};
-ghost use Rattle.metric.specs.Exact.{space};
-ghost use Rattle.greedy.specs.Scratch.{over, Measures};
+ghost use Rattle.greedy.specs.Scratch.{Measures};
 ghost use Rattle.batch_pool.specs.Pooled.{poolAs, Pooled, Added};
 ghost use Rattle.batch_pool.specs.Regions.{Walkable, stage, poolOf, SeenBelow, Filled, Holding, Grown, visits, pooledIds};
 
 use greedy::Plan;
-use metric::Gauge;
 
 // One id with its distance, unless its mark is the stamp. The ids stand in front, the marks of the n entries from n on, the distances from 2n on.
 fn add_once(pool: &mut [u32], n: usize, stamp: u32, len: usize, id: u32, dist: u32) -> usize
@@ -36,26 +34,27 @@ fn add_once(pool: &mut [u32], n: usize, stamp: u32, len: usize, id: u32, dist: u
 // The ids of a row, with their distances.
 fn add_row(
     pool: &mut [u32],
+    n: usize,
     stamp: u32,
     row: &[u32],
-    g: Gauge,
+    dim: usize,
     vectors: &[u8],
     query: &[u8],
 ) -> usize
-    requires pooled { Pooled g.n (poolAs pool.old stamp 0) }
-    requires n_bound { g.n ≤ 65536 }
-    requires measures { Measures (space g vectors.now) query.now }
-    requires searchable { Searchable g.n row.now }
-    ensures { Added g.n (poolAs pool.old stamp 0) (poolAs pool.new stamp result)
-        (ids row.now) (λ d. d ≡ fromQuery (space g vectors.now) query.now) }
+    requires pooled { Pooled n (poolAs pool.old stamp 0) }
+    requires n_bound { n ≤ 65536 }
+    requires measures { Measures n dim vectors.now query.now }
+    requires searchable { Searchable n row.now }
+    ensures { Added n (poolAs pool.old stamp 0) (poolAs pool.new stamp result)
+        (ids row.now) (λ d. d ≡ fromQuery dim vectors.now query.now) }
 {
     let mut len = 0;
     let mut k = 0;
     while k < row.len() {
         let id = row[k];
         if id != table::PADDING {
-            let dist = metric::from_query(g, vectors, query, id as usize);
-            len = add_once(pool, g.n, stamp, len, id, dist);
+            let dist = metric::from_query(dim, vectors, query, id as usize);
+            len = add_once(pool, n, stamp, len, id, dist);
         }
         k += 1;
     }
@@ -109,8 +108,8 @@ fn add_walk(
     requires epoch_bound { (epoch + 1 < epochEnd) × Holding p epoch (stage words.old stamp len) }
     requires start_lt_n { start < p.n }
     ensures grown { Grown p result.epoch (stage words.old stamp len) (stage words.new stamp result.len)
-        (visits p (fromQuery (over p vectors.now) query.now) wide.now start)
-        (fromQuery (over p vectors.now) query.now) }
+        (visits p (fromQuery p.dim vectors.now query.now) wide.now start)
+        (fromQuery p.dim vectors.now query.now) }
     ensures epoch_value { result.epoch ≡ epoch + 1 }
 {
     let mut keys = [beam::NONE; 256];
@@ -137,8 +136,8 @@ fn add_walks(
     requires seeds_bound { (c.epoch + length seeds.now < epochEnd) × Holding p c.epoch (stage words.old stamp c.len) }
     requires below { Below p.n seeds.now }
     ensures grown { Grown p result.epoch (stage words.old stamp c.len) (stage words.new stamp result.len)
-        (joined (map (visits p (fromQuery (over p vectors.now) query.now) wide.now) seeds.now))
-        (fromQuery (over p vectors.now) query.now) }
+        (joined (map (visits p (fromQuery p.dim vectors.now query.now) wide.now) seeds.now))
+        (fromQuery p.dim vectors.now query.now) }
     ensures epoch_value { result.epoch ≡ c.epoch + length seeds.now }
 {
     let mut s = c;
@@ -169,8 +168,8 @@ pub fn collect_pool(
     requires seeds_bound { (epochAfter epoch (nodeWalks wide.now start node seeds.now) < epochEnd) × Holding p epoch (stage words.old stamp 0) }
     requires node_lt_n { (node < p.n) × (start < p.n) × Below p.n seeds.now }
     ensures grown { Grown p result.epoch (stage words.old stamp 0) (stage words.new stamp result.len)
-        (pooledIds p (fromQuery (over p vectors.now) query.now) wide.now node start seeds.now)
-        (fromQuery (over p vectors.now) query.now) }
+        (pooledIds p (fromQuery p.dim vectors.now query.now) wide.now node start seeds.now)
+        (fromQuery p.dim vectors.now query.now) }
     ensures epoch_value { result.epoch ≡ epochAfter epoch (nodeWalks wide.now start node seeds.now) }
 {
     let n = p.n;
@@ -179,16 +178,12 @@ pub fn collect_pool(
     let pool_end = scratch::pool_end(n);
     let at = node * width;
     let end = at + width;
-    let g = Gauge {
-        n,
-        dim: p.dim,
-        metric: p.metric,
-    };
     let len = add_row(
         &mut words[pool_at..pool_end],
+        n,
         stamp,
         &wide[at..end],
-        g,
+        p.dim,
         vectors,
         query,
     );

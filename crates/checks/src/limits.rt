@@ -1,7 +1,7 @@
 // Tests of numbers and lengths: no loop.
 
 ghost use Rattle.std.specs.Prelude.{◌≡◌, ◌≤◌};
-ghost use Rattle.definition.specs.Refusals.{badDim, badCount, badVectors, badDegree, badBeam, badAlpha, badMetric, badStart, badExtra};
+ghost use Rattle.definition.specs.Refusals.{badDim, badCount, badVectors, badDegree, badBeam, badAlpha, badStart, badExtra};
 ghost use Rattle.definition.specs.Slack.{slack};
 ghost use Rattle.checks.specs.Lengths.{wrongLength};
 
@@ -61,13 +61,6 @@ pub fn bad_alpha(alpha: f32) -> bool
     ensures { result ≡ badAlpha alpha }
 {
     4.0 < alpha
-}
-
-// 18, whose place is after 5
-pub fn bad_metric(metric: u32) -> bool
-    ensures { result ≡ badMetric metric }
-{
-    1 < metric
 }
 
 // 6

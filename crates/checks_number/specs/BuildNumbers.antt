@@ -2,7 +2,7 @@
 use Rattle.std.specs.Prelude.{◌≡◌, refl, Bool, true, false, ◌||◌, List, [], ◌∷◌, ◌++◌, ℕ, Float, length}
 use Rattle.definition.specs.declared.Params.{Params}
 use Rattle.definition.specs.Slack.{slack}
-use Rattle.definition.specs.Refusals.{◌when◌else◌, badCount, badDegree, badAlpha, badMetric, badSeeds, badTable, badNodes, bad_order}
+use Rattle.definition.specs.Refusals.{◌when◌else◌, badCount, badDegree, badAlpha, badSeeds, badTable, badNodes, bad_order}
 use Rattle.definition.specs.Refusals.{batchNumber, openNumber, closeNumber, buildNumber}
 use Rattle.checks.specs.Lengths.{wrongLength, length-is, buildShort, room-is}
 use Rattle.checks_number.specs.Tests.{Tests, number_of}
@@ -72,8 +72,8 @@ module _ (n dim : ℕ) (vectors : List ℕ) (params : Params) (wide : List ℕ) 
   abbrev pub closeTests : Tests
   closeTests =
       entryTests n dim vectors
-      ++ ((3, badDegree params.degree) ∷ (5, badAlpha params.alpha) ∷ (18, badMetric params.metric)
-      ∷ (8, badTable n (slack params.degree) wide) ∷ (8, wrongLength n params.degree closed) ∷ (10, buildShort n words floats) ∷ [])
+      ++ ((3, badDegree params.degree) ∷ (5, badAlpha params.alpha) ∷ (8, badTable n (slack params.degree) wide)
+      ∷ (8, wrongLength n params.degree closed) ∷ (10, buildShort n words floats) ∷ [])
 
 module _ {n dim : ℕ} {vectors : List ℕ} {params : Params} {wide : List ℕ} {closed words floats r : ℕ} where
   pub close-numbered : r ≡ number_of (closeTests n dim vectors params wide closed words floats) → CloseNumbered n dim vectors params wide closed words floats r

@@ -4,18 +4,17 @@ use Rattle.std.proofs.Math.Path.{refl}
 use Rattle.std.proofs.Common.{ap, ◌∙◌, arith, le-ltb}
 use Rattle.std.proofs.Math.Bool.{or-false}
 use Rattle.definition.specs.declared.Candidate.{Candidate}
-use Rattle.definition.specs.Refusals.{SearchCall, badDegree, badBeam, badMetric, badStart, badSearched, short, mostAnswers, searchShort}
+use Rattle.definition.specs.Refusals.{SearchCall, badDegree, badBeam, badStart, badSearched, short, mostAnswers, searchShort}
 use Rattle.definition.specs.Refusals.{searchNumberAt, searchNumber, recordsNumber}
 use Rattle.checks.specs.Lengths.{searchShortBy}
 use Rattle.checks_number.specs.Tests.{Tests, number_of, holdsAt, numbered, cleared}
 use Rattle.checks_number.specs.Shared.{entryTests}
 
-abbrev pub call_of : ℕ → ℕ → List ℕ → ℕ → ℕ → ℕ → ℕ → ℕ → List ℕ → List ℕ → List ℕ → List Float → List ℕ → List Float → SearchCall
-call_of n dim vectors metric degree beam k start table query words floats ids dists = record {
+abbrev pub call_of : ℕ → ℕ → List ℕ → ℕ → ℕ → ℕ → ℕ → List ℕ → List ℕ → List ℕ → List Float → List ℕ → List Float → SearchCall
+call_of n dim vectors degree beam k start table query words floats ids dists = record {
   n = n;
   dim = dim;
   vectors = vectors;
-  metric = metric;
   degree = degree;
   beam = beam;
   k = k;
@@ -36,38 +35,35 @@ short-is c words floats ids dists run p q r s = rw (p, q, r, s) refl
 
 -- ---- the tests of a search: those of its numbers and vectors, 8, and those of what it is lent, with the query's
 
-abbrev pub limitTests : ℕ → ℕ → List ℕ → ℕ → ℕ → ℕ → ℕ → Tests
-limitTests n dim vectors metric degree beam start =
-    entryTests n dim vectors
-    ++ ((3, badDegree degree) ∷ (4, badBeam beam) ∷ (18, badMetric metric) ∷ (6, badStart n start) ∷ [])
+abbrev pub limitTests : ℕ → ℕ → List ℕ → ℕ → ℕ → ℕ → Tests
+limitTests n dim vectors degree beam start = entryTests n dim vectors ++ ((3, badDegree degree) ∷ (4, badBeam beam) ∷ (6, badStart n start) ∷ [])
 
 abbrev pub lengthTests : ℕ → ℕ → ℕ → ℕ → List ℕ → ℕ → ℕ → ℕ → ℕ → ℕ → Tests
 lengthTests n dim beam k query words floats ids dists run =
     (10, searchShortBy n beam k words floats ids dists run) ∷ (11, not (eqb (length query) dim)) ∷ []
 
-pub limits-clear : (n dim : ℕ) (vectors : List ℕ) (metric degree beam start : ℕ) → number_of (limitTests n dim vectors metric degree beam start) ≡ 0
-    → (i : ℕ) → holdsAt (limitTests n dim vectors metric degree beam start) i ≡ false
+pub limits-clear : (n dim : ℕ) (vectors : List ℕ) (degree beam start : ℕ) → number_of (limitTests n dim vectors degree beam start) ≡ 0
+    → (i : ℕ) → holdsAt (limitTests n dim vectors degree beam start) i ≡ false
 unfolding numbered
-limits-clear n dim vectors metric degree beam start z = cleared (limitTests n dim vectors metric degree beam start) refl z
+limits-clear n dim vectors degree beam start z = cleared (limitTests n dim vectors degree beam start) refl z
 
-module _ (n dim : ℕ) (vectors : List ℕ) (metric degree beam k start : ℕ) (table query : List ℕ) (words floats ids dists run : ℕ) where
+module _ (n dim : ℕ) (vectors : List ℕ) (degree beam k start : ℕ) (table query : List ℕ) (words floats ids dists run : ℕ) where
   -- r is the number of every search that is lent these lengths, with `run` records
   pub record SearchNumbered (r : ℕ) : Type 0 where
     pub is : (ws : List ℕ) (fs : List Float) (is : List ℕ) (ds : List Float) → length ws ≡ words → length fs ≡ floats → length is ≡ ids → length ds ≡ dists
-        → let c = call_of n dim vectors metric degree beam k start table query ws fs is ds in
-        r ≡ searchNumberAt (searchShort c || ltb run (mostAnswers beam k)) c
+        → let c = call_of n dim vectors degree beam k start table query ws fs is ds in r ≡ searchNumberAt (searchShort c || ltb run (mostAnswers beam k)) c
 
   abbrev pub searchTests : Tests
   searchTests =
-      limitTests n dim vectors metric degree beam start
+      limitTests n dim vectors degree beam start
       ++ ((8, badSearched n degree table) ∷ lengthTests n dim beam k query words floats ids dists run)
 
-module _ {n dim : ℕ} {vectors : List ℕ} {metric degree beam k start : ℕ} {table query : List ℕ} {words floats ids dists run r : ℕ} where
-  pub search-numbered : r ≡ number_of (searchTests n dim vectors metric degree beam k start table query words floats ids dists run)
-      → SearchNumbered n dim vectors metric degree beam k start table query words floats ids dists run r
+module _ {n dim : ℕ} {vectors : List ℕ} {degree beam k start : ℕ} {table query : List ℕ} {words floats ids dists run r : ℕ} where
+  pub search-numbered : r ≡ number_of (searchTests n dim vectors degree beam k start table query words floats ids dists run)
+      → SearchNumbered n dim vectors degree beam k start table query words floats ids dists run r
   unfolding searchNumberAt number_of
   search-numbered e = record {
-    is = λ ws fs is ds p q r s. rw (short-is (call_of n dim vectors metric degree beam k start table query ws fs is ds) words floats ids dists run p q r s) e;
+    is = λ ws fs is ds p q r s. rw (short-is (call_of n dim vectors degree beam k start table query ws fs is ds) words floats ids dists run p q r s) e;
   }
 
 k-enough : (beam k : ℕ) → ltb k (mostAnswers beam k) ≡ false
@@ -81,14 +77,14 @@ plain_at c =
     ap (λ (t : Bool). searchNumberAt t c)
     (ap (λ (t : Bool). searchShort c || t) (k-enough c.beam c.k) ∙ or-false (searchShort c))
 
-module _ (n dim : ℕ) (vectors : List ℕ) (metric degree beam k start : ℕ)
+module _ (n dim : ℕ) (vectors : List ℕ) (degree beam k start : ℕ)
     (table query words : List ℕ) (floats : List Float) (ids : List ℕ) (dists : List Float) (r : ℕ) where
   -- with a run of `run` records
   abbrev Numbered : ℕ → Type 0
-  Numbered run = SearchNumbered n dim vectors metric degree beam k start table query (length words) (length floats) (length ids) (length dists) run r
+  Numbered run = SearchNumbered n dim vectors degree beam k start table query (length words) (length floats) (length ids) (length dists) run r
 
   abbrev call : SearchCall
-  call = call_of n dim vectors metric degree beam k start table query words floats ids dists
+  call = call_of n dim vectors degree beam k start table query words floats ids dists
 
   pub plain : Numbered k → r ≡ searchNumber call
   plain m = m.is words floats ids dists refl refl refl refl ∙ plain_at call

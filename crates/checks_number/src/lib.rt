@@ -1,4 +1,4 @@
-// The number of each public call: that of the first test that holds, in rising order but for 18, whose place is after 5, and 0 for none.
+// The number of each public call: that of the first test that holds, in rising order, and 0 for none.
 // What a call is lent for writing and does not read is given by its length.
 
 ghost use Rattle.std.specs.Prelude.{◌≡◌, ◌≤◌};
@@ -11,8 +11,8 @@ ghost use Rattle.checks_number.specs.BuildNumbers.{BatchNumbered, OpenNumbered, 
 ghost use Rattle.checks_number.specs.MedoidNumber.{MedoidNumbered};
 
 use checks::limits::{
-    bad_alpha, bad_beam, bad_count, bad_degree, bad_dim, bad_length, bad_metric, bad_start,
-    bad_vectors, bad_wide_length,
+    bad_alpha, bad_beam, bad_count, bad_degree, bad_dim, bad_length, bad_start, bad_vectors,
+    bad_wide_length,
 };
 use checks::rooms::{build_short, search_short};
 use checks::sets::{bad_nodes, bad_order, bad_pivots, bad_seeds};
@@ -32,7 +32,7 @@ pub fn entries_number(n: usize, dim: usize, vectors: &[u8]) -> u32
     0
 }
 
-// 1 to 5, 18 and 6, which a batch and a whole build begin with.
+// 1 to 6, which a batch and a whole build begin with.
 fn params_number(n: usize, dim: usize, vectors: &[u8], params: Params, start: u32) -> u32
     ensures { result ≡ number_of (paramTests n dim vectors.now params start) }
 {
@@ -49,26 +49,22 @@ fn params_number(n: usize, dim: usize, vectors: &[u8], params: Params, start: u3
     if bad_alpha(params.alpha) {
         return 5;
     }
-    if bad_metric(params.metric) {
-        return 18;
-    }
     if bad_start(n, start) {
         return 6;
     }
     0
 }
 
-// 1 to 4, 18 and 6, which a search, a lookup and a report begin with.
+// 1 to 6, which a search, a lookup and a report begin with.
 pub fn limits_number(
     n: usize,
     dim: usize,
     vectors: &[u8],
-    metric: u32,
     degree: usize,
     beam: usize,
     start: u32,
 ) -> u32
-    ensures { result ≡ number_of (limitTests n dim vectors.now metric degree beam start) }
+    ensures { result ≡ number_of (limitTests n dim vectors.now degree beam start) }
 {
     let early = entries_number(n, dim, vectors);
     if early != 0 {
@@ -79,9 +75,6 @@ pub fn limits_number(
     }
     if bad_beam(beam) {
         return 4;
-    }
-    if bad_metric(metric) {
-        return 18;
     }
     if bad_start(n, start) {
         return 6;
@@ -119,7 +112,6 @@ pub fn search_number(
     n: usize,
     dim: usize,
     vectors: &[u8],
-    metric: u32,
     degree: usize,
     beam: usize,
     k: usize,
@@ -132,10 +124,9 @@ pub fn search_number(
     dists: usize,
     run: usize,
 ) -> u32
-    ensures { SearchNumbered n dim vectors.now metric degree beam k start table.now query.now
-        words floats ids dists run result }
+    ensures { SearchNumbered n dim vectors.now degree beam k start table.now query.now words floats ids dists run result }
 {
-    let early = limits_number(n, dim, vectors, metric, degree, beam, start);
+    let early = limits_number(n, dim, vectors, degree, beam, start);
     if early != 0 {
         return early;
     }
@@ -150,7 +141,6 @@ pub fn lookup_number(
     n: usize,
     dim: usize,
     vectors: &[u8],
-    metric: u32,
     degree: usize,
     beam: usize,
     k: usize,
@@ -162,10 +152,10 @@ pub fn lookup_number(
     ids: usize,
     dists: usize,
 ) -> u32
-    ensures { SearchNumbered n dim vectors.now metric degree beam k start (cleaned n table.now) query.now
+    ensures { SearchNumbered n dim vectors.now degree beam k start (cleaned n table.now) query.now
         words floats ids dists k result }
 {
-    let early = limits_number(n, dim, vectors, metric, degree, beam, start);
+    let early = limits_number(n, dim, vectors, degree, beam, start);
     if early != 0 {
         return early;
     }
@@ -267,9 +257,6 @@ pub fn close_number(
     if bad_alpha(params.alpha) {
         return 5;
     }
-    if bad_metric(params.metric) {
-        return 18;
-    }
     if bad_wide(n, params.degree, wide) {
         return 8;
     }
@@ -325,15 +312,12 @@ pub fn build_number(
 }
 
 // Of medoid.
-pub fn medoid_number(n: usize, dim: usize, vectors: &[u8], metric: u32, pivots: &[u32]) -> u32
-    ensures { MedoidNumbered n dim vectors.now metric pivots.now result }
+pub fn medoid_number(n: usize, dim: usize, vectors: &[u8], pivots: &[u32]) -> u32
+    ensures { MedoidNumbered n dim vectors.now pivots.now result }
 {
     let early = entries_number(n, dim, vectors);
     if early != 0 {
         return early;
-    }
-    if bad_metric(metric) {
-        return 18;
     }
     if bad_pivots(n, pivots) {
         return 12;

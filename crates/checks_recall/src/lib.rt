@@ -1,5 +1,5 @@
-// The numbers of an exhaustive search and of a report: that of the first test that holds, in rising order but for 18, whose place is after 5, and 0 for none.
-// All that no test reads is given by its length, the queries too.
+// The numbers of an exhaustive search and of a report: that of the first test that holds, in rising order, and 0 for none. All that no test reads is given by
+// its length, the queries too.
 
 ghost use Rattle.std.specs.Prelude.{◌≡◌, ◌≤◌};
 ghost use Rattle.definition.specs.Refusals.{badK};
@@ -7,7 +7,6 @@ ghost use Rattle.checks_recall.specs.Lengths.{nearestShort, reportShort, wrongQu
 ghost use Rattle.checks_recall.specs.ExhaustiveNumber.{ExhaustiveNumbered};
 ghost use Rattle.checks_recall.specs.ReportNumber.{ReportNumbered};
 
-use checks::limits::bad_metric;
 use checks::tables::bad_searched;
 use checks_number::{entries_number, limits_number};
 use laws::least;
@@ -62,20 +61,16 @@ pub fn exhaustive_number(
     n: usize,
     dim: usize,
     vectors: &[u8],
-    metric: u32,
     k: usize,
     query: usize,
     ids: usize,
     dists: usize,
 ) -> u32
-    ensures { ExhaustiveNumbered n dim vectors.now metric k query ids dists result }
+    ensures { ExhaustiveNumbered n dim vectors.now k query ids dists result }
 {
     let early = entries_number(n, dim, vectors);
     if early != 0 {
         return early;
-    }
-    if bad_metric(metric) {
-        return 18;
     }
     if nearest_short(n, k, ids, dists) {
         return 10;
@@ -94,7 +89,6 @@ pub fn report_number(
     n: usize,
     dim: usize,
     vectors: &[u8],
-    metric: u32,
     degree: usize,
     beam: usize,
     k: usize,
@@ -104,9 +98,9 @@ pub fn report_number(
     words: usize,
     floats: usize,
 ) -> u32
-    ensures { ReportNumbered n dim vectors.now metric degree beam k start table.now queries words floats result }
+    ensures { ReportNumbered n dim vectors.now degree beam k start table.now queries words floats result }
 {
-    let early = limits_number(n, dim, vectors, metric, degree, beam, start);
+    let early = limits_number(n, dim, vectors, degree, beam, start);
     if early != 0 {
         return early;
     }

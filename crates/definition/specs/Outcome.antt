@@ -7,7 +7,7 @@ use Rattle.definition.specs.declared.Params.{Params}
 use Rattle.definition.specs.declared.Candidate.{Candidate}
 use Rattle.definition.specs.declared.Report.{Report}
 use Rattle.definition.specs.Lists.{upto, total, over, cleared}
-use Rattle.definition.specs.Metric.{metric, Space, vector, between, fromQuery, whole}
+use Rattle.definition.specs.Metric.{metric, vector, between, fromQuery, whole}
 use Rattle.definition.specs.Tables.{row, cleaned}
 use Rattle.definition.specs.Beam.{Item}
 use Rattle.definition.specs.Floats.{nought}
@@ -50,17 +50,14 @@ module _ {A : Type 0} where
 -- ---- distance
 
 unfoldable pub distanceOut : DistanceCall → Answer
-distanceOut c = byNumber (distanceNumber c) (refused (distanceNumber c)) (answer 0 0 0 0 (whole (metric c.metric c.first c.second)))
+distanceOut c = byNumber (distanceNumber c) (refused (distanceNumber c)) (answer 0 0 0 0 (whole (metric c.first c.second)))
 
 -- ---- batch
 
--- what distances are over, and what a build goes by
-abbrev pub buildSpace : ℕ → ℕ → List ℕ → Params → Space
-buildSpace n dim vectors p = record { n = n; dim = dim; vectors = vectors; metric = p.metric }
-
+-- what a build goes by
 unfoldable pub setting_of : ℕ → ℕ → List ℕ → Params → Setting
 setting_of n dim vectors p =
-    record { n = n; pair = between (buildSpace n dim vectors p); degree = p.degree; beam = p.beam; alpha = p.alpha }
+    record { n = n; pair = between dim vectors; degree = p.degree; beam = p.beam; alpha = p.alpha }
 
 pub record BatchOut : Type 0 where
   pub answer : Answer
@@ -175,24 +172,18 @@ pub record BuildMeets (c : BuildCall) (o : BuildOut) : Type 0 where
 
 -- ---- medoid
 
-abbrev pub medoidSpace : MedoidCall → Space
-medoidSpace c = record { n = c.n; dim = c.dim; vectors = c.vectors; metric = c.metric }
-
 unfoldable pub medoidOut : MedoidCall → Answer
-medoidOut c = byNumber (medoidNumber c) (refused (medoidNumber c)) (answer 0 0 (medoid (between (medoidSpace c)) c.pivots c.n) 0 nought)
+medoidOut c = byNumber (medoidNumber c) (refused (medoidNumber c)) (answer 0 0 (medoid (between c.dim c.vectors) c.pivots c.n) 0 nought)
 
 -- ---- search
 
-abbrev pub searchSpace : SearchCall → Space
-searchSpace c = record { n = c.n; dim = c.dim; vectors = c.vectors; metric = c.metric }
-
 -- the answers of an accepted search, best first
 unfoldable pub found : SearchCall → List Item
-found c = answers (fromQuery (searchSpace c) c.query) (row c.degree c.table) c.n c.beam c.start c.k
+found c = answers (fromQuery c.dim c.vectors c.query) (row c.degree c.table) c.n c.beam c.start c.k
 
 -- the state that its walk comes to
 unfoldable pub walked : SearchCall → State
-walked c = searched (fromQuery (searchSpace c) c.query) (row c.degree c.table) c.n c.beam c.start
+walked c = searched (fromQuery c.dim c.vectors c.query) (row c.degree c.table) c.n c.beam c.start
 
 unfoldable pub foundIds : SearchCall → List ℕ
 foundIds c = map (λ a. a.id) (found c)
@@ -265,7 +256,6 @@ cleanedCall c =
       n = c.n;
       dim = c.dim;
       vectors = c.vectors;
-      metric = c.metric;
       degree = c.degree;
       beam = c.beam;
       k = c.k;
@@ -295,12 +285,9 @@ fitOut c = refused (fitNumber c)
 
 -- ---- exhaustive search
 
-abbrev pub exhaustiveSpace : ExhaustiveCall → Space
-exhaustiveSpace c = record { n = c.n; dim = c.dim; vectors = c.vectors; metric = c.metric }
-
 -- the answers of an accepted one, best first
 unfoldable pub nearestTo : ExhaustiveCall → List Item
-nearestTo c = nearest (fromQuery (exhaustiveSpace c) c.query) c.n c.k
+nearestTo c = nearest (fromQuery c.dim c.vectors c.query) c.n c.k
 
 pub record ExhaustiveOut : Type 0 where
   pub answer : Answer
@@ -331,9 +318,6 @@ pub record ExhaustiveMeets (c : ExhaustiveCall) (o : ExhaustiveOut) : Type 0 whe
 unfoldable pub reported : ℕ → ℕ → ℕ → ℕ → ℕ → Report
 reported number queries asked found whole = record { number = number; queries = queries; asked = asked; found = found; whole = whole }
 
-abbrev pub reportSpace : ReportCall → Space
-reportSpace c = record { n = c.n; dim = c.dim; vectors = c.vectors; metric = c.metric }
-
 -- how many queries there are, and how many entries are asked for by each
 unfoldable pub queryCount : ReportCall → ℕ
 queryCount c = length c.queries / c.dim
@@ -344,7 +328,7 @@ askedEach c = min c.k c.n
 -- how many of the nearest to query q the search brings; and so of each query
 unfoldable pub hitsAt : ReportCall → ℕ → ℕ
 hitsAt c q =
-    hits (fromQuery (reportSpace c) (vector c.dim c.queries q)) (row c.degree c.table) c.n c.beam c.start c.k
+    hits (fromQuery c.dim c.vectors (vector c.dim c.queries q)) (row c.degree c.table) c.n c.beam c.start c.k
 
 unfoldable pub allHits : ReportCall → List ℕ
 allHits c = map (hitsAt c) (upto (queryCount c))

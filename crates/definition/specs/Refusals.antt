@@ -1,5 +1,5 @@
 -- The numbers returned. For each public call: what it is lent and given, and the number of the first check that holds, 0 for none.
--- A call checks, in rising number, those that concern its arguments; 18, the metric, has its place after 5.
+-- A call checks, in rising number, those that concern its arguments.
 use Rattle.std.specs.Prelude.{ℕ, ◌+◌, ◌*◌, ◌/◌, ◌%◌, min, max, Bool, true, false, not, ◌&&◌, ◌||◌, List, leb, ltb, eqb, length, Float}
 use Rattle.definition.specs.declared.Params.{Params}
 use Rattle.definition.specs.declared.Candidate.{Candidate}
@@ -34,10 +34,6 @@ badBeam beam = ltb 256 beam
 
 unfoldable pub badAlpha : Float → Bool
 badAlpha alpha = above alpha four
-
--- 18: the metric, 0 or 1
-unfoldable pub badMetric : ℕ → Bool
-badMetric metric = ltb 1 metric
 
 unfoldable pub badStart : ℕ → ℕ → Bool
 badStart n start = leb n start
@@ -112,12 +108,10 @@ reportFloats = searchFloats + 512
 pub record DistanceCall : Type 0 where
   pub first : List ℕ
   pub second : List ℕ
-  pub metric : ℕ
 
 unfoldable pub distanceNumber : DistanceCall → ℕ
 distanceNumber c =
     1 when badDim (length c.first) else
-    18 when badMetric c.metric else
     11 when not (eqb (length c.first) (length c.second)) else
     0
 
@@ -142,7 +136,6 @@ batchNumber c =
     3 when badDegree c.params.degree else
     4 when badBeam c.params.beam else
     5 when badAlpha c.params.alpha else
-    18 when badMetric c.params.metric else
     6 when badStart c.n c.start else
     7 when badSeeds c.n c.params.extra c.start (length c.nodes) c.seeds else
     8 when badTable c.n (slack c.params.degree) c.wide else
@@ -183,7 +176,6 @@ closeNumber c =
     2 when badVectors c.n c.dim c.vectors else
     3 when badDegree c.params.degree else
     5 when badAlpha c.params.alpha else
-    18 when badMetric c.params.metric else
     8 when badTable c.n (slack c.params.degree) c.wide || badLength c.n c.params.degree c.closed else
     10 when short (buildWords c.n) c.words || short (buildFloats c.n) c.floats else
     0
@@ -211,7 +203,6 @@ buildNumber c =
     3 when badDegree c.params.degree else
     4 when badBeam c.params.beam else
     5 when badAlpha c.params.alpha else
-    18 when badMetric c.params.metric else
     6 when badStart c.n c.start else
     7 when badSeeds c.n c.params.extra c.start c.n c.seeds else
     8 when badTable c.n c.params.degree c.opening || (badLength c.n (slack c.params.degree) c.wide || badLength c.n c.params.degree c.closed) else
@@ -225,14 +216,12 @@ pub record MedoidCall : Type 0 where
   pub n : ℕ
   pub dim : ℕ
   pub vectors : List ℕ
-  pub metric : ℕ
   pub pivots : List ℕ
 
 unfoldable pub medoidNumber : MedoidCall → ℕ
 medoidNumber c =
     1 when badDim c.dim else
     2 when badVectors c.n c.dim c.vectors else
-    18 when badMetric c.metric else
     12 when badPivots c.n c.pivots else
     0
 
@@ -242,7 +231,6 @@ pub record SearchCall : Type 0 where
   pub n : ℕ
   pub dim : ℕ
   pub vectors : List ℕ
-  pub metric : ℕ
   pub degree : ℕ
   pub beam : ℕ
   pub k : ℕ
@@ -266,7 +254,6 @@ searchNumberAt tooShort c =
     2 when badVectors c.n c.dim c.vectors else
     3 when badDegree c.degree else
     4 when badBeam c.beam else
-    18 when badMetric c.metric else
     6 when badStart c.n c.start else
     8 when badSearched c.n c.degree c.table else
     10 when tooShort else
@@ -299,7 +286,6 @@ pub record ExhaustiveCall : Type 0 where
   pub n : ℕ
   pub dim : ℕ
   pub vectors : List ℕ
-  pub metric : ℕ
   pub k : ℕ
   pub query : List ℕ
   pub ids : List ℕ
@@ -309,7 +295,6 @@ unfoldable pub exhaustiveNumber : ExhaustiveCall → ℕ
 exhaustiveNumber c =
     1 when badDim c.dim else
     2 when badVectors c.n c.dim c.vectors else
-    18 when badMetric c.metric else
     10 when short (min c.k c.n) c.ids || short (min c.k c.n) c.dists else
     11 when not (eqb (length c.query) c.dim) else
     14 when badK c.k else
@@ -321,7 +306,6 @@ pub record ReportCall : Type 0 where
   pub n : ℕ
   pub dim : ℕ
   pub vectors : List ℕ
-  pub metric : ℕ
   pub degree : ℕ
   pub beam : ℕ
   pub k : ℕ
@@ -337,7 +321,6 @@ reportNumber c =
     2 when badVectors c.n c.dim c.vectors else
     3 when badDegree c.degree else
     4 when badBeam c.beam else
-    18 when badMetric c.metric else
     6 when badStart c.n c.start else
     8 when badSearched c.n c.degree c.table else
     10 when short (reportWords c.n) c.words || short reportFloats c.floats else

@@ -105,7 +105,6 @@ module _ (vs : List ℕ) where
         n = theN;
         dim = theDim;
         vectors = theVectors;
-        metric = 0;
         degree = theDegree;
         beam = get_or vs 4 0;
         k = get_or vs 5 0;

@@ -2,9 +2,8 @@
 -- Samples: document 01's cases. Lookups: `lookup` and `fit`. Counts: a search's two counts and its room. Recalls: exhaustive search and the report.
 -- Ties: equal distances. Texts: `seek`.
 -- Builds: whole builds with the values that 000 gives. Cut: pruning's cut at 750.
--- Metrics: the absolute metric, and number 18. Accepts: a call of each kind that is not refused. Opened opens every definition, Spaces names spaces.
+-- Accepts: a call of each kind that is not refused. Opened opens every definition.
 pub mod Opened
-pub mod Spaces
 pub mod Samples
 pub mod Lookups
 pub mod Counts
@@ -13,5 +12,4 @@ pub mod Ties
 pub mod Texts
 pub mod Builds
 pub mod Cut
-pub mod Metrics
 pub mod Accepts

@@ -17,26 +17,23 @@ pub struct Answer {
     pub measured: usize,
 }
 
-// The build parameters. `metric` is the number of the metric: 0 the squared one, 1 the absolute one. It stands where padding stood before 8/13.
+// The build parameters.
 #[repr(C)]
 #[derive(Drop)]
 pub struct Params {
     pub degree: usize,
     pub beam: usize,
     pub alpha: f32,
-    pub metric: u32,
     pub extra: usize,
 }
 
-// The four defaults of 000, and its metric.
+// The four defaults of 000.
 impl Params {
     pub const DEGREE: usize = 64;
 
     pub const BEAM: usize = 128;
 
     pub const ALPHA: f32 = 1.2;
-
-    pub const METRIC: u32 = 0;
 
     pub const EXTRA: usize = 1;
 
@@ -47,7 +44,6 @@ impl Params {
             degree: Self::DEGREE,
             beam: Self::BEAM,
             alpha: Self::ALPHA,
-            metric: Self::METRIC,
             extra: Self::EXTRA,
         }
     }

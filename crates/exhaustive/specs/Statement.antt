@@ -4,9 +4,8 @@ use Rattle.definition.specs.declared.Answer.{Answer}
 use Rattle.definition.specs.Refusals.{ExhaustiveCall}
 use Rattle.definition.specs.Outcome.{ExhaustiveOut, exhaustiveDone}
 
-abbrev pub call_of : ℕ → ℕ → List ℕ → ℕ → ℕ → List ℕ → List ℕ → List Float → ExhaustiveCall
-call_of n dim vectors metric k query ids dists =
-    record { n = n; dim = dim; vectors = vectors; metric = metric; k = k; query = query; ids = ids; dists = dists }
+abbrev pub call_of : ℕ → ℕ → List ℕ → ℕ → List ℕ → List ℕ → List Float → ExhaustiveCall
+call_of n dim vectors k query ids dists = record { n = n; dim = dim; vectors = vectors; k = k; query = query; ids = ids; dists = dists }
 
 abbrev pub out_of : Answer → List ℕ → List Float → ExhaustiveOut
 out_of a ids dists = record { answer = a; ids = ids; dists = dists }

@@ -12,7 +12,7 @@ ghost use Rattle.draws.specs.Says.{DrawSays, RowsSays, SeedsSays, OrderSays, Piv
 use definition::{Answer, Candidate, Params, Report};
 use draws::Stepped;
 
-// The build parameters with the four defaults of 000, and metric 0. No number.
+// The build parameters with the four defaults of 000. No number.
 #[unsafe(no_mangle)]
 pub extern "C" fn fjalgrout_defaults() -> Params
     ensures { result ≡ defaults }
@@ -20,29 +20,23 @@ pub extern "C" fn fjalgrout_defaults() -> Params
     Params::defaults()
 }
 
-// Part 1. The distance of two vectors. Numbers 1, 18, 11.
+// Part 1. The distance of two vectors. Numbers 1, 11.
 #[unsafe(no_mangle)]
-pub extern "C" fn fjalgrout_distance(a: &[u8], b: &[u8], metric: u32) -> Answer
-    ensures { result ≡ distanceOut (record { first = a.now; second = b.now; metric = metric }) }
+pub extern "C" fn fjalgrout_distance(a: &[u8], b: &[u8]) -> Answer
+    ensures { result ≡ distanceOut (record { first = a.now; second = b.now }) }
 {
-    metric::distance(a, b, metric)
+    metric::distance(a, b)
 }
 
-// Part 8. The start. Numbers 1, 2, 18, 12.
+// Part 8. The start. Numbers 1, 2, 12.
 #[unsafe(no_mangle)]
-pub extern "C" fn fjalgrout_medoid(
-    n: usize,
-    dim: usize,
-    vectors: &[u8],
-    metric: u32,
-    pivots: &[u32],
-) -> Answer
-    ensures { result ≡ medoidOut (record { n = n; dim = dim; vectors = vectors.now; metric = metric; pivots = pivots.now }) }
+pub extern "C" fn fjalgrout_medoid(n: usize, dim: usize, vectors: &[u8], pivots: &[u32]) -> Answer
+    ensures { result ≡ medoidOut (record { n = n; dim = dim; vectors = vectors.now; pivots = pivots.now }) }
 {
-    medoid::medoid(n, dim, vectors, metric, pivots)
+    medoid::medoid(n, dim, vectors, pivots)
 }
 
-// Part 6. One batch. Numbers 1 to 5, 18, 6 to 10.
+// Part 6. One batch. Numbers 1 to 10.
 #[unsafe(no_mangle)]
 pub extern "C" fn fjalgrout_batch(
     n: usize,
@@ -80,7 +74,7 @@ pub extern "C" fn fjalgrout_open(
     build::open(n, degree, opening, wide)
 }
 
-// Part 7. Wide rows closed. Numbers 1, 2, 3, 5, 18, 8, 10.
+// Part 7. Wide rows closed. Numbers 1, 2, 3, 5, 8, 10.
 #[unsafe(no_mangle)]
 pub extern "C" fn fjalgrout_close(
     n: usize,
@@ -99,7 +93,7 @@ pub extern "C" fn fjalgrout_close(
     build::close(n, dim, vectors, params, wide, closed, words, floats)
 }
 
-// Part 7. A whole build. Numbers 1 to 5, 18, 6 to 10.
+// Part 7. A whole build. Numbers 1 to 10.
 #[unsafe(no_mangle)]
 pub extern "C" fn fjalgrout_build(
     n: usize,
@@ -124,13 +118,12 @@ pub extern "C" fn fjalgrout_build(
     )
 }
 
-// Part 9. A search. Numbers 1, 2, 3, 4, 18, 6, 8, 10, 11.
+// Part 9. A search. Numbers 1, 2, 3, 4, 6, 8, 10, 11.
 #[unsafe(no_mangle)]
 pub extern "C" fn fjalgrout_search(
     n: usize,
     dim: usize,
     vectors: &[u8],
-    metric: u32,
     degree: usize,
     beam: usize,
     k: usize,
@@ -143,21 +136,20 @@ pub extern "C" fn fjalgrout_search(
     dists: &mut [f32],
 ) -> Answer
     ensures { SearchMeets
-        (record { n = n; dim = dim; vectors = vectors.now; metric = metric; degree = degree; beam = beam; k = k; start = start; table = table.now; query = query.now; words = words.old; floats = floats.old; ids = ids.old; dists = dists.old })
+        (record { n = n; dim = dim; vectors = vectors.now; degree = degree; beam = beam; k = k; start = start; table = table.now; query = query.now; words = words.old; floats = floats.old; ids = ids.old; dists = dists.old })
         (record { answer = result; words = words.new; floats = floats.new; ids = ids.new; dists = dists.new }) }
 {
     search::search(
-        n, dim, vectors, metric, degree, beam, k, start, table, query, words, floats, ids, dists,
+        n, dim, vectors, degree, beam, k, start, table, query, words, floats, ids, dists,
     )
 }
 
-// Part 9. A search that makes no pass over its table: a word that is no id below n reads as padding. Numbers 1, 2, 3, 4, 18, 6, 8 (its length alone), 10, 11.
+// Part 9. A search that makes no pass over its table: a word that is no id below n reads as padding. Numbers 1, 2, 3, 4, 6, 8 (its length alone), 10, 11.
 #[unsafe(no_mangle)]
 pub extern "C" fn fjalgrout_lookup(
     n: usize,
     dim: usize,
     vectors: &[u8],
-    metric: u32,
     degree: usize,
     beam: usize,
     k: usize,
@@ -170,11 +162,11 @@ pub extern "C" fn fjalgrout_lookup(
     dists: &mut [f32],
 ) -> Answer
     ensures { LookupMeets
-        (record { n = n; dim = dim; vectors = vectors.now; metric = metric; degree = degree; beam = beam; k = k; start = start; table = table.now; query = query.now; words = words.old; floats = floats.old; ids = ids.old; dists = dists.old })
+        (record { n = n; dim = dim; vectors = vectors.now; degree = degree; beam = beam; k = k; start = start; table = table.now; query = query.now; words = words.old; floats = floats.old; ids = ids.old; dists = dists.old })
         (record { answer = result; words = words.new; floats = floats.new; ids = ids.new; dists = dists.new }) }
 {
     search::lookup(
-        n, dim, vectors, metric, degree, beam, k, start, table, query, words, floats, ids, dists,
+        n, dim, vectors, degree, beam, k, start, table, query, words, floats, ids, dists,
     )
 }
 
@@ -186,32 +178,30 @@ pub extern "C" fn fjalgrout_fit(n: usize, degree: usize, table: &[u32]) -> Answe
     search::fit(n, degree, table)
 }
 
-// 1/13. The k nearest of all entries. Numbers 1, 2, 18, 10, 11, 14.
+// 1/13. The k nearest of all entries. Numbers 1, 2, 10, 11, 14.
 #[unsafe(no_mangle)]
 pub extern "C" fn fjalgrout_exhaustive(
     n: usize,
     dim: usize,
     vectors: &[u8],
-    metric: u32,
     k: usize,
     query: &[u8],
     ids: &mut [u32],
     dists: &mut [f32],
 ) -> Answer
     ensures { ExhaustiveMeets
-        (record { n = n; dim = dim; vectors = vectors.now; metric = metric; k = k; query = query.now; ids = ids.old; dists = dists.old })
+        (record { n = n; dim = dim; vectors = vectors.now; k = k; query = query.now; ids = ids.old; dists = dists.old })
         (record { answer = result; ids = ids.new; dists = dists.new }) }
 {
-    exhaustive::exhaustive(n, dim, vectors, metric, k, query, ids, dists)
+    exhaustive::exhaustive(n, dim, vectors, k, query, ids, dists)
 }
 
-// 1/13. How many of the nearest a search of each query brings. Numbers 1, 2, 3, 4, 18, 6, 8, 10, 11, 14.
+// 1/13. How many of the nearest a search of each query brings. Numbers 1, 2, 3, 4, 6, 8, 10, 11, 14.
 #[unsafe(no_mangle)]
 pub extern "C" fn fjalgrout_report(
     n: usize,
     dim: usize,
     vectors: &[u8],
-    metric: u32,
     degree: usize,
     beam: usize,
     k: usize,
@@ -222,21 +212,20 @@ pub extern "C" fn fjalgrout_report(
     floats: &mut [f32],
 ) -> Report
     ensures { ReportMeets
-        (record { n = n; dim = dim; vectors = vectors.now; metric = metric; degree = degree; beam = beam; k = k; start = start; table = table.now; queries = queries.now; words = words.old; floats = floats.old })
+        (record { n = n; dim = dim; vectors = vectors.now; degree = degree; beam = beam; k = k; start = start; table = table.now; queries = queries.now; words = words.old; floats = floats.old })
         (record { report = result; words = words.new; floats = floats.new }) }
 {
     recall::report(
-        n, dim, vectors, metric, degree, beam, k, start, table, queries, words, floats,
+        n, dim, vectors, degree, beam, k, start, table, queries, words, floats,
     )
 }
 
-// Part 9. A search, and its answers once more as a run of records. Numbers 1, 2, 3, 4, 18, 6, 8, 10, 11.
+// Part 9. A search, and its answers once more as a run of records. Numbers 1, 2, 3, 4, 6, 8, 10, 11.
 #[unsafe(no_mangle)]
 pub extern "C" fn fjalgrout_records(
     n: usize,
     dim: usize,
     vectors: &[u8],
-    metric: u32,
     degree: usize,
     beam: usize,
     k: usize,
@@ -250,13 +239,12 @@ pub extern "C" fn fjalgrout_records(
     run: &mut [Candidate],
 ) -> Answer
     ensures { RecordsMeets
-        (record { n = n; dim = dim; vectors = vectors.now; metric = metric; degree = degree; beam = beam; k = k; start = start; table = table.now; query = query.now; words = words.old; floats = floats.old; ids = ids.old; dists = dists.old })
+        (record { n = n; dim = dim; vectors = vectors.now; degree = degree; beam = beam; k = k; start = start; table = table.now; query = query.now; words = words.old; floats = floats.old; ids = ids.old; dists = dists.old })
         run.old
         (record { plain = record { answer = result; words = words.new; floats = floats.new; ids = ids.new; dists = dists.new }; records = run.new }) }
 {
     search_records::search_records(
-        n, dim, vectors, metric, degree, beam, k, start, table, query, words, floats, ids, dists,
-        run,
+        n, dim, vectors, degree, beam, k, start, table, query, words, floats, ids, dists, run,
     )
 }
 

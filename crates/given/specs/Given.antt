@@ -4,8 +4,7 @@ use Rattle.std.proofs.Common.{arith}
 use Rattle.definition.specs.declared.Params.{Params}
 use Rattle.definition.specs.Batch.{Setting}
 use Rattle.definition.specs.Floats.{four, above}
-use Rattle.definition.specs.Metric.{Space}
-use Rattle.definition.specs.Outcome.{buildSpace, setting_of}
+use Rattle.definition.specs.Outcome.{setting_of}
 use Rattle.definition.specs.Slack.{slack}
 use Rattle.laws.specs.Words.{Searchable}
 use Rattle.scratch.specs.Layout.{widest}
@@ -22,10 +21,6 @@ pub record Given : Type 0 where
 -- as the code has them
 abbrev pub given : Ground → List ℕ → Given
 given g vectors = record { n = g.n; dim = g.dim; vectors = vectors; params = g.params; width = g.slack }
-
--- what their distances are over
-abbrev pub space_of : Given → Space
-space_of g = buildSpace g.n g.dim g.vectors g.params
 
 abbrev pub setting : Given → Setting
 setting g = setting_of g.n g.dim g.vectors g.params

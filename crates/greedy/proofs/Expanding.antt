@@ -15,14 +15,15 @@ use Rattle.laws.specs.Backwards.{map-append}
 use Rattle.laws.specs.Paired.{items_of, items-measured}
 use Rattle.laws.specs.Parts.{part, Within, part-front, part-front-length, within-above, within_none, within-trans, within_wider, put, put-part, put-within}
 use Rattle.scratch.specs.Layout.{visitedAt, visitedEnd, visitedDistsAt, poolAt}
-use Rattle.metric.specs.Exact.{Distances}
+use Rattle.metric.specs.Exact.{VectorIn, Distances}
+use Rattle.metric.specs.Laws.{vector-in}
 use Rattle.marks.specs.Marked.{news, Seen, Gathers}
 use Rattle.marks.specs.Visits.{visited-most, marked-kept, visited-kept, seen-kept}
 use Rattle.kept.specs.declared.Work.{Work}
 use Rattle.kept.specs.Says.{standing as standing-kept, Works, Working, Met, meets}
 use Rattle.kept.specs.Cases.{meets-visited}
 use Rattle.greedy.specs.declared.Plan.{Plan}
-use Rattle.greedy.specs.Scratch.{Standing, standing, walkEnd, walk-end-all, walk-end-least, roomy-kept, Ready, Logged, Is, Live, Keeps, Moves}
+use Rattle.greedy.specs.Scratch.{Measures, Standing, standing, walkEnd, walk-end-all, walk-end-least, space-kept, Ready, Logged, Is, Live, Keeps, Moves}
 use Rattle.greedy.specs.Cases.{measured-ids, measured-dists, measured-length, expand-meets}
 
 -- ---- the list of the visited, where it is kept
@@ -76,10 +77,10 @@ module _ {p : Plan} {epoch : ℕ} {s₀ : Standing} (r : Ready p epoch s₀) {wo
   fresh-inside = subst (All (λ (i : ℕ). i < n)) (sym (part-front count fresh)) g.inside
 
   pub fresh-small : All (λ (i : ℕ). i < 65536) ids
-  fresh-small = all_weaker (λ (i : ℕ). i < n) (λ (i : ℕ). i < 65536) (λ i h. omega (arith, r.roomy.nodes)) ids fresh-inside
+  fresh-small = all_weaker (λ (i : ℕ). i < n) (λ (i : ℕ). i < 65536) (λ i h. omega (arith, r.space.nodes)) ids fresh-inside
 
-  pub fresh-entry : (j : ℕ) → j < length ids → get_or ids j 0 < n
-  fresh-entry j h = all-at (λ (i : ℕ). i < n) 0 ids fresh-inside j h
+  pub fresh-vectors : {dim : ℕ} {vectors query : List ℕ} → Measures n dim vectors query → (j : ℕ) → j < length ids → VectorIn dim vectors (get_or ids j 0)
+  fresh-vectors {dim} {vectors} m j h = vector-in dim vectors n (get_or ids j 0) m.vectors-are (all-at (λ (i : ℕ). i < n) 0 ids fresh-inside j h)
 
   module _ {apart : List ℕ} (f : Fits count fresh apart) where
     size : length ids ≡ count
@@ -100,7 +101,7 @@ module _ {p : Plan} {epoch : ℕ} {s₀ : Standing} (r : Ready p epoch s₀) {wo
       dists-size = sym (ap length dists-are ∙ length-map ids d)
 
       pub keep-asks : p.keep ≡ true → (n ≤ 65536) × (poolAt n ≤ length words₁) × (v + length ids ≤ n) × (length ids ≡ length dists)
-      keep-asks e = (r.roomy.nodes, omega (arith, r.roomy.room, walk-end-all p e, g.kept.size), omega (arith, size, fresh-most), dists-size)
+      keep-asks e = (r.space.nodes, omega (arith, r.space.room, walk-end-all p e, g.kept.size), omega (arith, size, fresh-most), dists-size)
 
       module _ {words₂ : List ℕ} (l : Lists p v ids dists words₁ words₂) {keys₂ : List ℕ} {w : Work}
           (m : Met p.beam (standing-kept s₀.keys s₀.counts.work) (standing-kept keys₂ w) ids dists) where
@@ -110,7 +111,7 @@ module _ {p : Plan} {epoch : ℕ} {s₀ : Standing} (r : Ready p epoch s₀) {wo
         ready₂ : Ready p epoch s₂
         ready₂ =
             record {
-              roomy = roomy-kept r.roomy (l.kept.size ∙ g.kept.size);
+              space = space-kept r.space (l.kept.size ∙ g.kept.size);
               marked = marked-kept n epoch (walkEnd p) l.kept g.marked;
               visited-is = visited-kept n epoch (walkEnd p) l.kept ∙ omega (arith, g.grow, r.visited-is);
             }

@@ -26,7 +26,7 @@ pub record Reached (p : Plan) (epoch : ℕ) (dist : ℕ → ℕ) (rows : ℕ →
 
 -- another walk may follow, and no entry was visited twice
 ready-room : {p : Plan} {epoch : ℕ} {s : Standing} → Ready p epoch s → Room p epoch s.words
-ready-room r = record { roomy = r.roomy; marks = r.marked.marks-le }
+ready-room r = record { space = r.space; marks = r.marked.marks-le }
 
 ready-few : {p : Plan} {epoch : ℕ} {s : Standing} → Ready p epoch s → s.counts.visited ≤ p.n
 ready-few r = omega (arith, visited-most r.marked, r.visited-is)
@@ -129,7 +129,7 @@ module _ {p : Plan} {epoch : ℕ} {dist : ℕ → ℕ} {rows : ℕ → List ℕ}
       s₁ = standing s.words keys₁ (record { visited = s.counts.visited; work = works s.counts.work.len r.done s.counts.work.bound })
 
       pub pop-ready : Ready p epoch s₁
-      pop-ready = record { roomy = run.ready.roomy; marked = run.ready.marked; visited-is = run.ready.visited-is }
+      pop-ready = record { space = run.ready.space; marked = run.ready.marked; visited-is = run.ready.visited-is }
 
       popped-is : (st : State) → Is p epoch s st → Is p epoch s₁ (popped st)
       unfolding popped visitedIds

@@ -27,7 +27,7 @@ use Rattle.kept.specs.Cases.{meets-one}
 use Rattle.kept.specs.Laws.{works-none, works-tell}
 use Rattle.greedy.specs.declared.Plan.{Plan}
 use Rattle.greedy.specs.declared.Walked.{Walked}
-use Rattle.greedy.specs.Scratch.{noted, fromStart, walk_of, Standing, standing, walkEnd, walk-end-least, roomy-kept}
+use Rattle.greedy.specs.Scratch.{noted, fromStart, walk_of, Standing, standing, walkEnd, walk-end-least, space-kept}
 use Rattle.greedy.specs.Scratch.{Ready, Room, Is, Live, Moves, Leaves, Ends, Walks}
 use Rattle.greedy.specs.Cases.{expand-meets, steps-stop, steps-go, stops-empty, stops-filled, step_is, greedy-is, from-none, from_some}
 
@@ -91,7 +91,7 @@ bare {n} {beam} e k = ap length k.frontier-is ∙ go k.kept k.rest (omega (arith
 
 -- there is room for the mark of what is no entry
 pub stray-fits : {p : Plan} {epoch : ℕ} {words : List ℕ} → Room p epoch words → strayAt p.n < length words
-stray-fits {p} r = omega (arith, r.roomy.room, walk-end-least p)
+stray-fits {p} r = omega (arith, r.space.room, walk-end-least p)
 
 -- ---- the scratch at the start: e is the next epoch, w an empty work
 pub record Started (p : Plan) (epoch : ℕ) (words : List ℕ) (e : ℕ) (keys : List ℕ) (w : Work) : Type 0 where
@@ -127,15 +127,15 @@ module _ {p : Plan} {epoch : ℕ} {words₀ : List ℕ} {e : ℕ} {keys : List �
   pub start-ready : Ready p e s₀
   start-ready =
       record {
-        roomy = roomy-kept b.room.roomy (length-set words₀ (strayAt n) e);
-        marked = marked_start n e words₀ below b.room.roomy.nodes fits;
+        space = space-kept b.room.space (length-set words₀ (strayAt n) e);
+        marked = marked_start n e words₀ below b.room.space.nodes fits;
         visited-is = visited-start n e words₀ below (omega (arith, fits));
       }
 
   start_is : Is p e s₀ unvisited
   unfolding unvisited visitedIds
   start_is =
-      let s = b.room.roomy in
+      let s = b.room.space in
       record {
         seen = seen_start n e words₀ below;
         count = refl;
@@ -155,7 +155,7 @@ module _ {p : Plan} {epoch : ℕ} {words₀ : List ℕ} {e : ℕ} {keys : List �
   -- ---- the start is met
   module _ (d : ℕ → ℕ) {start : ℕ} (inside : start < n) {s₁ : Standing} (m : Moves p e s₀ s₁ (λ st. expand d beam st (cleaned n (start ∷ [])))) where
     met-is : Is p e s₁ (meet beam (first d start) unvisited)
-    met-is = subst (Is p e s₁) (first-met d start n beam b.room.roomy.nodes inside) (m.moves unvisited start_is)
+    met-is = subst (Is p e s₁) (first-met d start n beam b.room.space.nodes inside) (m.moves unvisited start_is)
 
     pub met-live : Live p e s₁
     met-live = record { state = meet beam (first d start) unvisited; is = met-is }

@@ -1,7 +1,6 @@
 -- What the words and the keys of a walk hold. Where the regions lie is said in crate scratch (Layout); what the keys say, in crate kept.
 use Rattle.std.specs.Prelude.{◌≡◌, Bool, true, cond, List, ◌∷◌, ◌++◌, map, ℕ, ◌+◌, ◌*◌, ◌≤◌, ◌<◌, eqb, length, take}
 use Rattle.std.proofs.Common.{ap, mul-le-mul, arith}
-use Rattle.definition.specs.Metric.{Space}
 use Rattle.definition.specs.Tables.{row, cleaned}
 use Rattle.definition.specs.Beam.{Item}
 use Rattle.definition.specs.Greedy.{State, visitedIds, expand, steps, greedy}
@@ -19,19 +18,15 @@ use Rattle.greedy.specs.declared.Walked.{Walked}
 
 -- ---- what a walk goes over
 
--- what its distances are over
-abbrev pub over : Plan → List ℕ → Space
-over p vectors = record { n = p.n; dim = p.dim; vectors = vectors; metric = p.metric }
-
 -- what is measured: n vectors of dim bytes, and a query
-pub record Measures (s : Space) (query : List ℕ) : Type 0 where
-  pub vectors-are : length s.vectors ≡ s.n * s.dim
-  pub query-is : length query ≡ s.dim
-  pub few : s.dim ≤ 256
+pub record Measures (n dim : ℕ) (vectors query : List ℕ) : Type 0 where
+  pub vectors-are : length vectors ≡ n * dim
+  pub query-is : length query ≡ dim
+  pub few : dim ≤ 256
 
 -- and rows of width words, of any kind
 pub record Ground (p : Plan) (vectors query table : List ℕ) : Type 0 where
-  pub measures : Measures (over p vectors) query
+  pub measures : Measures p.n p.dim vectors query
   pub size : length table ≡ p.n * p.width
   pub narrow : p.width ≤ widest
 
@@ -88,23 +83,23 @@ walk-end-least p = either (λ (e : ℕ). visitedAt p.n ≤ e) p.keep (omega arit
 -- ---- what is safe to run on
 
 -- there is room for a walk
-pub record Roomy (p : Plan) (words : List ℕ) : Type 0 where
+pub record Space (p : Plan) (words : List ℕ) : Type 0 where
   pub nodes : p.n ≤ 65536
   pub room : walkEnd p ≤ length words
   pub beam-le : p.beam ≤ mostBeam
 
-pub roomy-kept : {p : Plan} {a b : List ℕ} → Roomy p a → length b ≡ length a → Roomy p b
-roomy-kept s e = record { nodes = s.nodes; room = omega (arith, s.room); beam-le = s.beam-le }
+pub space-kept : {p : Plan} {a b : List ℕ} → Space p a → length b ≡ length a → Space p b
+space-kept s e = record { nodes = s.nodes; room = omega (arith, s.room); beam-le = s.beam-le }
 
 -- room, marks, and as many of them as visited
 pub record Ready (p : Plan) (epoch : ℕ) (s : Standing) : Type 0 where
-  pub roomy : Roomy p s.words
+  pub space : Space p s.words
   pub marked : Marked p.n epoch s.words
   pub visited-is : visitedOf p.n epoch s.words ≡ s.counts.visited
 
 -- what a walk asks of the words: room, and no mark past the epoch
 pub record Room (p : Plan) (epoch : ℕ) (words : List ℕ) : Type 0 where
-  pub roomy : Roomy p words
+  pub space : Space p words
   pub marks : Marks p.n words epoch
 
 -- ---- what they hold of the definition's state

@@ -9,20 +9,17 @@ ghost use Rattle.definition.specs.Greedy.{expand, steps};
 ghost use Rattle.theory.specs.build.Walks.{epochEnd};
 ghost use Rattle.scratch.specs.Layout.{widest, poolAt};
 ghost use Rattle.beam.specs.Keys.{none};
-ghost use Rattle.greedy.specs.Scratch.{over, Measures, Ground, fromStart, walk_of, standing, Ready, Live, Room, Rooms, Keeps, Moves, Ends, Walks};
+ghost use Rattle.greedy.specs.Scratch.{Measures, Ground, fromStart, walk_of, standing, Ready, Live, Room, Rooms, Keeps, Moves, Ends, Walks};
 
 use kept::Work;
-use metric::Gauge;
 
-// What a walk goes by: n entries of dim bytes, and rows of width words; the number of the metric; and whether it keeps a list of all that it visits. The metric
-// stands beside `keep`, where it fills what the compiler would leave free: a plan stands in every frame of a walk.
+// What a walk goes by: n entries of dim bytes, and rows of width words; and whether it keeps a list of all that it visits.
 #[derive(Drop)]
 pub struct Plan {
     pub n: usize,
     pub dim: usize,
     pub width: usize,
     pub beam: usize,
-    pub metric: u32,
     pub keep: bool,
 }
 
@@ -99,20 +96,21 @@ fn expand(
 ) -> Counts
     requires ready { Ready p epoch (standing words.old keys.old c) }
     requires live { Live p epoch (standing words.old keys.old c) }
-    requires measures { Measures (over p vectors.now) query.now }
+    requires measures { Measures p.n p.dim vectors.now query.now }
     requires rooms { Rooms row.now fresh.old apart.old }
     ensures { Moves p epoch (standing words.old keys.old c) (standing words.new keys.new result)
-        (λ st. expand (fromQuery (over p vectors.now) query.now) p.beam st (cleaned p.n row.now)) }
+        (λ st. expand (fromQuery p.dim vectors.now query.now) p.beam st (cleaned p.n row.now)) }
 {
     let n = p.n;
     let count = marks::gather(words, n as u32, epoch, row, fresh);
-    let g = Gauge {
-        n,
-        dim: p.dim,
-        metric: p.metric,
-    };
-    metric::touch_each(g, vectors, &fresh[0..count], &mut apart[0..count]);
-    metric::from_query_each(g, vectors, query, &fresh[0..count], &mut apart[0..count]);
+    metric::touch_each(p.dim, vectors, &fresh[0..count], &mut apart[0..count]);
+    metric::from_query_each(
+        p.dim,
+        vectors,
+        query,
+        &fresh[0..count],
+        &mut apart[0..count],
+    );
     if p.keep {
         keep_each(words, n, c.visited, &fresh[0..count], &apart[0..count]);
     }
@@ -140,7 +138,7 @@ fn step(
     requires ground { Ground p vectors.now query.now table.now }
     requires id_lt_n { (id < p.n) × (length fresh.old ≡ widest) × (length apart.old ≡ widest) }
     ensures { Moves p epoch (standing words.old keys.old c) (standing words.new keys.new result)
-        (λ st. expand (fromQuery (over p vectors.now) query.now) p.beam st
+        (λ st. expand (fromQuery p.dim vectors.now query.now) p.beam st
         (row p.width (cleaned p.n table.now) id)) }
 {
     let width = p.width;
@@ -179,7 +177,7 @@ fn walk(
     requires ground { Ground p vectors.now query.now table.now }
     requires fresh_len { (length fresh.old ≡ widest) × (length apart.old ≡ widest) }
     ensures { Ends p epoch (standing words.old keys.old c) words.new keys.new result
-        (λ st. steps (fromQuery (over p vectors.now) query.now)
+        (λ st. steps (fromQuery p.dim vectors.now query.now)
         (row p.width (cleaned p.n table.now)) p.beam p.n st) }
 {
     let mut s = c;
@@ -230,7 +228,7 @@ fn from_start(
     requires ground { Ground p vectors.now query.now table.now }
     requires start_lt_n { (start < p.n) × (length fresh.old ≡ widest) × (length apart.old ≡ widest) }
     ensures { Ends p epoch (standing words.old keys.old c) words.new keys.new result
-        (fromStart p (fromQuery (over p vectors.now) query.now) table.now start) }
+        (fromStart p (fromQuery p.dim vectors.now query.now) table.now start) }
 {
     if p.beam == 0 {
         let s = step(
@@ -264,7 +262,7 @@ pub fn greedy(
     requires ground { Ground p vectors.now query.now table.now }
     requires start_lt_n { start < p.n }
     ensures { Walks p epoch words.old words.new keys.new result
-        (walk_of p (fromQuery (over p vectors.now) query.now) table.now start) }
+        (walk_of p (fromQuery p.dim vectors.now query.now) table.now start) }
 {
     let mut fresh = [0u32; scratch::WIDEST];
     let mut apart = [0u32; scratch::WIDEST];

@@ -1,2 +1,3 @@
--- What a loop over some entries has written so far.
+-- What the proofs of several functions of the metric share, and the loops that need a state of their own.
+mod Gap
 mod Each

@@ -1,44 +1,176 @@
-// Part 1, with 5/13's rule and 8/13's second metric. The distance of two vectors by the metric of a number: a whole number. Here the number chooses a kernel,
-// once for a stretch of samples; nothing above knows a metric.
+// Part 1, with 5/13's rule. The distance of two vectors: the sum of squared byte differences, a whole number. A sample that is 255 in either adds nothing.
 
-ghost use Rattle.std.specs.Prelude.{◌≡◌, ℕ, ◌≤◌, ◌<◌, length, get_or};
-ghost use Rattle.definition.specs.Metric.{metric, fromQuery, between};
+ghost use Rattle.std.specs.Prelude.{◌≡◌, cond, ℕ, ◌+◌, ◌-◌, ◌*◌, ◌%◌, ◌<◌, ◌≤◌, min, max, length, get_or, drop};
+ghost use Rattle.definition.specs.Lists.{total};
+ghost use Rattle.definition.specs.Metric.{saturated, squared, metric, fromQuery, between};
 ghost use Rattle.definition.specs.Outcome.{distanceOut};
-ghost use Rattle.metric_samples.specs.Stretches.{Stretch, Adds};
-ghost use Rattle.metric.specs.Exact.{space, Exact, VectorIn, Distances};
+ghost use Rattle.whole.specs.Whole.{farthest};
+ghost use Rattle.metric.specs.Exact.{Exact, VectorIn, Distances};
+ghost use Rattle.metric.specs.Stretches.{Stretch, Adds, Sixteen};
 
 use definition::Answer;
 
-// What distances are over, but for the vectors, which are lent beside it: n entries of dim samples, and the number of the metric.
-#[derive(Drop)]
-pub struct Gauge {
-    pub n: usize,
-    pub dim: usize,
-    pub metric: u32,
+fn higher(x: u8, y: u8) -> u8
+    ensures { result ≡ max x y }
+{
+    if x < y {
+        return y;
+    }
+    x
 }
 
-// What the samples from `from` up to `to` add to the distance of two vectors.
-pub fn stretch(m: u32, a: &[u8], b: &[u8], from: usize, to: usize) -> u32
-    requires { Stretch a.now b.now from to }
-    ensures { Adds m a.now b.now from to result }
+fn lower(x: u8, y: u8) -> u8
+    ensures { result ≡ min x y }
 {
-    if m == 0 {
-        return metric_squared::stretch(a, b, from, to);
+    if x < y {
+        return x;
     }
-    metric_absolute::stretch(a, b, from, to)
+    y
+}
+
+// What the higher of two samples is measured from: the lower, or 255 where it is that itself, so that it adds nothing.
+fn ground(high: u8, low: u8) -> u8
+    ensures { result ≡ cond (saturated high) 255 low }
+{
+    if high == 255 {
+        return 255;
+    }
+    low
+}
+
+// What two samples add to a distance. All but the last step is on bytes, so that sixteen of them go into one instruction.
+fn squared(x: u8, y: u8) -> u32
+    ensures { result ≡ squared x y }
+{
+    let high = higher(x, y);
+    let low = lower(x, y);
+    let gap = high - ground(high, low);
+    gap as u32 * gap as u32
+}
+
+// The same of a sample that is looked at by itself. There the processor can choose between numbers of 32 bits, but between bytes only by a branch.
+fn squared_alone(x: u8, y: u8) -> u32
+    ensures { result ≡ squared x y }
+{
+    let high = higher(x, y) as u32;
+    let gap = high - lower(x, y) as u32;
+    if high == 255u32 {
+        return 0;
+    }
+    gap * gap
+}
+
+// Sixteen samples from `at` on, each added to a sum of its own: the sixteen sums stay in registers, and are added up once a stretch.
+fn add_sixteen(sums: &mut [u32; 16], a: &[u8], b: &[u8], at: usize)
+    requires stretch { Stretch a.now b.now at (at + 16) }
+    requires sums_len { (length sums.old ≡ 16) × (total sums.old + metric (drop at a.now) (drop at b.now) ≤ farthest) }
+    ensures { Sixteen a.now b.now (at + 16)
+        (total sums.old + metric (drop at a.now) (drop at b.now)) sums.new }
+{
+    let mut j = 0;
+    while j < 16 {
+        let k = at + j;
+        sums[j] = sums[j] + squared(a[k], b[k]);
+        j += 1;
+    }
+}
+
+// The sixteen sums added up.
+fn total(sums: &[u32; 16]) -> u32
+    requires { (length sums.now ≡ 16) × (total sums.now ≤ farthest) }
+    ensures { result ≡ total sums.now }
+{
+    let mut sum: u32 = 0;
+    let mut j = 0;
+    while j < 16 {
+        sum += sums[j];
+        j += 1;
+    }
+    sum
+}
+
+// What the samples from `from` up to `to` add, sixteen at a time. No turn goes beyond `to` as it is; with `least` the compiler does not see how many turns
+// there are. Where it sees that, it takes samples sixteen places apart into one register, and fetches them one by one.
+fn sixteens(a: &[u8], b: &[u8], from: usize, to: usize) -> u32
+    requires stretch { Stretch a.now b.now from to }
+    requires from_value { (to - from) % 16 ≡ 0 }
+    ensures { Adds a.now b.now from to result }
+{
+    let mut sums = [0u32; 16];
+    let mut i = from;
+    while i < to {
+        add_sixteen(&mut sums, a, b, i);
+        i = laws::least(i + 16, to);
+    }
+    total(&sums)
+}
+
+// What eight samples from `at` on add.
+fn eight(a: &[u8], b: &[u8], at: usize) -> u32
+    requires { Stretch a.now b.now at (at + 8) }
+    ensures { Adds a.now b.now at (at + 8) result }
+{
+    let mut sum: u32 = 0;
+    let mut j = 0;
+    while j < 8 {
+        let k = at + j;
+        sum += squared(a[k], b[k]);
+        j += 1;
+    }
+    sum
+}
+
+// What the samples from `from` up to `to` add, one by one.
+fn few(a: &[u8], b: &[u8], from: usize, to: usize) -> u32
+    requires { Stretch a.now b.now from to }
+    ensures { Adds a.now b.now from to result }
+{
+    let mut sum: u32 = 0;
+    let mut i = from;
+    while i < to {
+        sum += squared_alone(a[i], b[i]);
+        i += 1;
+    }
+    sum
+}
+
+// What fewer than sixteen add: eight of them at once, if there are so many.
+fn rest(a: &[u8], b: &[u8], from: usize, to: usize) -> u32
+    requires { Stretch a.now b.now from to }
+    ensures { Adds a.now b.now from to result }
+{
+    if to - from < 8 {
+        return few(a, b, from, to);
+    }
+    let middle = from + 8;
+    eight(a, b, from) + few(a, b, middle, to)
+}
+
+// What the samples from `from` up to `to` add to the distance of two vectors. Where there is no rest, as with the tower's 64, what the sixteens add is returned
+// as it is: were it always added to something, the compiler, where it has both in one function, would not keep the sixteen sums together.
+pub fn stretch(a: &[u8], b: &[u8], from: usize, to: usize) -> u32
+    requires { Stretch a.now b.now from to }
+    ensures { Adds a.now b.now from to result }
+{
+    let end = to - (to - from) % 16;
+    let most = sixteens(a, b, from, end);
+    if end == to {
+        return most;
+    }
+    most + rest(a, b, end, to)
 }
 
 // The distance of two vectors of one length.
-fn summed(m: u32, a: &[u8], b: &[u8]) -> u32
+fn summed(a: &[u8], b: &[u8]) -> u32
     requires { (length a.now ≡ length b.now) × (length a.now ≤ 256) }
-    ensures { Exact (metric m a.now b.now) result }
+    ensures { Exact (metric a.now b.now) result }
 {
-    stretch(m, a, b, 0, a.len())
+    stretch(a, b, 0, a.len())
 }
 
 // The distance of two vectors, or the number of the refusal.
-pub fn distance(a: &[u8], b: &[u8], metric: u32) -> Answer
-    ensures { result ≡ distanceOut (record { first = a.now; second = b.now; metric = metric }) }
+pub fn distance(a: &[u8], b: &[u8]) -> Answer
+    ensures { result ≡ distanceOut (record { first = a.now; second = b.now }) }
 {
     let dim = a.len();
     if dim == 0 {
@@ -47,65 +179,43 @@ pub fn distance(a: &[u8], b: &[u8], metric: u32) -> Answer
     if 256 < dim {
         return answers::refused(1);
     }
-    if 1 < metric {
-        return answers::refused(18);
-    }
     if dim != b.len() {
         return answers::refused(11);
     }
-    answers::measured(summed(metric, a, b) as f32)
+    answers::measured(summed(a, b) as f32)
 }
 
 // The distance from a query to entry i of the flat vectors.
-pub fn from_query(g: Gauge, vectors: &[u8], query: &[u8], i: usize) -> u32
-    requires vector_in { VectorIn (space g vectors.now) i }
-    requires query_len { (length query.now ≡ g.dim) × (g.dim ≤ 256) }
-    ensures { Exact (fromQuery (space g vectors.now) query.now i) result }
+pub fn from_query(dim: usize, vectors: &[u8], query: &[u8], i: usize) -> u32
+    requires vector_in { VectorIn dim vectors.now i }
+    requires query_len { (length query.now ≡ dim) × (dim ≤ 256) }
+    ensures { Exact (fromQuery dim vectors.now query.now i) result }
 {
-    let at = i * g.dim;
-    let end = at + g.dim;
-    summed(g.metric, query, &vectors[at..end])
+    let at = i * dim;
+    let end = at + dim;
+    summed(query, &vectors[at..end])
 }
 
 // The distance from a query to each of some entries. None waits for another, so that the vectors come from memory side by side.
-fn measure_each(g: Gauge, vectors: &[u8], query: &[u8], ids: &[u32], dists: &mut [u32])
-    requires by_index { (j : ℕ) → j < length ids.now → VectorIn (space g vectors.now) (get_or ids.now j 0) }
-    requires query_len { (length query.now ≡ g.dim) × (g.dim ≤ 256) }
+pub fn from_query_each(dim: usize, vectors: &[u8], query: &[u8], ids: &[u32], dists: &mut [u32])
+    requires by_index { (j : ℕ) → j < length ids.now → VectorIn dim vectors.now (get_or ids.now j 0) }
+    requires query_len { (length query.now ≡ dim) × (dim ≤ 256) }
     requires ids_len { length ids.now ≡ length dists.old }
-    ensures { Distances (fromQuery (space g vectors.now) query.now) ids.now dists.new }
+    ensures { Distances (fromQuery dim vectors.now query.now) ids.now dists.new }
 {
     let mut k = 0;
     while k < ids.len() {
-        dists[k] = from_query(g, vectors, query, ids[k] as usize);
+        dists[k] = from_query(dim, vectors, query, ids[k] as usize);
         k += 1;
     }
 }
 
-// The same, with the metric chosen once for all of them: to the compiler it is a constant in either loop.
-pub fn from_query_each(g: Gauge, vectors: &[u8], query: &[u8], ids: &[u32], dists: &mut [u32])
-    requires by_index { (j : ℕ) → j < length ids.now → VectorIn (space g vectors.now) (get_or ids.now j 0) }
-    requires query_len { (length query.now ≡ g.dim) × (g.dim ≤ 256) }
-    requires ids_len { length ids.now ≡ length dists.old }
-    ensures { Distances (fromQuery (space g vectors.now) query.now) ids.now dists.new }
-{
-    let n = g.n;
-    let dim = g.dim;
-    if g.metric == 0 {
-        let squared = Gauge { n, dim, metric: 0 };
-        measure_each(squared, vectors, query, ids, dists);
-        return;
-    }
-    let absolute = Gauge { n, dim, metric: 1 };
-    measure_each(absolute, vectors, query, ids, dists);
-}
-
 // The first and the last sample of each of some entries, read so that their vectors are on their way from memory while other work is done. What is read
 // decides nothing. It goes to `out`, since a load whose value goes nowhere is taken away by the compiler.
-pub fn touch_each(g: Gauge, vectors: &[u8], ids: &[u32], out: &mut [u32])
-    requires by_index { (j : ℕ) → j < length ids.now → VectorIn (space g vectors.now) (get_or ids.now j 0) }
+pub fn touch_each(dim: usize, vectors: &[u8], ids: &[u32], out: &mut [u32])
+    requires by_index { (j : ℕ) → j < length ids.now → VectorIn dim vectors.now (get_or ids.now j 0) }
     requires ids_len { length ids.now ≡ length out.old }
 {
-    let dim = g.dim;
     if dim == 0 {
         return;
     }
@@ -119,13 +229,13 @@ pub fn touch_each(g: Gauge, vectors: &[u8], ids: &[u32], out: &mut [u32])
 }
 
 // The distance between entries i and j.
-pub fn between(g: Gauge, vectors: &[u8], i: usize, j: usize) -> u32
-    requires vector_in { VectorIn (space g vectors.now) i }
-    requires vector_in_2 { VectorIn (space g vectors.now) j }
-    requires dim_bound { g.dim ≤ 256 }
-    ensures { Exact (between (space g vectors.now) i j) result }
+pub fn between(dim: usize, vectors: &[u8], i: usize, j: usize) -> u32
+    requires vector_in { VectorIn dim vectors.now i }
+    requires vector_in_2 { VectorIn dim vectors.now j }
+    requires dim_bound { dim ≤ 256 }
+    ensures { Exact (between dim vectors.now i j) result }
 {
-    let at = i * g.dim;
-    let end = at + g.dim;
-    from_query(g, vectors, &vectors[at..end], j)
+    let at = i * dim;
+    let end = at + dim;
+    from_query(dim, vectors, &vectors[at..end], j)
 }

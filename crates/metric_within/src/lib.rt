@@ -2,32 +2,30 @@
 
 ghost use Rattle.std.specs.Prelude.{◌≡◌, ◌≤◌, length};
 ghost use Rattle.definition.specs.Metric.{metric, fromQuery};
-ghost use Rattle.metric.specs.Exact.{space, VectorIn};
+ghost use Rattle.metric.specs.Exact.{VectorIn};
 ghost use Rattle.metric_within.specs.Within.{Within};
-
-use metric::Gauge;
 
 // The distance of two vectors of one length, or, where the first quarter of the samples alone is above `most`, what that quarter adds. A quarter is whole
 // sixteens, rounded up, as they are summed.
-fn summed_within(m: u32, a: &[u8], b: &[u8], most: u32) -> u32
+fn summed_within(a: &[u8], b: &[u8], most: u32) -> u32
     requires { (length a.now ≡ length b.now) × (length a.now ≤ 256) }
-    ensures { Within most (metric m a.now b.now) result }
+    ensures { Within most (metric a.now b.now) result }
 {
     let first = (a.len() + 48) / 64 * 16;
-    let near = metric::stretch(m, a, b, 0, first);
+    let near = metric::stretch(a, b, 0, first);
     if most < near {
         return near;
     }
-    near + metric::stretch(m, a, b, first, a.len())
+    near + metric::stretch(a, b, first, a.len())
 }
 
 // The distance from a query to entry i of the flat vectors, as far as that.
-pub fn from_query_within(g: Gauge, vectors: &[u8], query: &[u8], i: usize, most: u32) -> u32
-    requires vector_in { VectorIn (space g vectors.now) i }
-    requires query_len { (length query.now ≡ g.dim) × (g.dim ≤ 256) }
-    ensures { Within most (fromQuery (space g vectors.now) query.now i) result }
+pub fn from_query_within(dim: usize, vectors: &[u8], query: &[u8], i: usize, most: u32) -> u32
+    requires vector_in { VectorIn dim vectors.now i }
+    requires query_len { (length query.now ≡ dim) × (dim ≤ 256) }
+    ensures { Within most (fromQuery dim vectors.now query.now i) result }
 {
-    let at = i * g.dim;
-    let end = at + g.dim;
-    summed_within(g.metric, query, &vectors[at..end], most)
+    let at = i * dim;
+    let end = at + dim;
+    summed_within(query, &vectors[at..end], most)
 }

@@ -13,8 +13,8 @@ use Rattle.definition.specs.Prune.{target_of}
 use Rattle.definition.specs.Batch.{pruneIds, wideRow, wideIds}
 use Rattle.definition.specs.Build.{open', closedIds, close, built}
 use Rattle.definition.specs.Refusals.{BatchCall, CloseCall, BuildCall, batchNumber, closeNumber, buildNumber, badAlpha, buildWords, buildFloats}
-use Rattle.definition.specs.Outcome.{byNumber, buildSpace, setting_of, refused, done, batchKept, batchDone, batchOut, closeKept, closeDone, closeOut}
-use Rattle.definition.specs.Outcome.{buildKept, builtWide, buildDone, buildOut}
+use Rattle.definition.specs.Outcome.{byNumber, setting_of, refused, done, batchKept, batchDone, batchOut, closeKept, closeDone, closeOut, buildKept, builtWide}
+use Rattle.definition.specs.Outcome.{buildDone, buildOut}
 use Rattle.theory.specs.build.Alphas.{below-not-above, target_one, close-alike, batch-alike, batches-alike}
 use Rattle.accepted.specs.Checks.{alpha-one}
 
@@ -59,7 +59,7 @@ buildBy p c =
 
 -- with another beam and another number of extra seeds
 abbrev pub otherSearch : ℕ → ℕ → Params → Params
-otherSearch beam extra p = record { degree = p.degree; beam = beam; alpha = p.alpha; metric = p.metric; extra = extra }
+otherSearch beam extra p = record { degree = p.degree; beam = beam; alpha = p.alpha; extra = extra }
 
 pub close-ignores : (c : CloseCall) (beam extra : ℕ) → closeOut c ≡ closeOut (closeBy (otherSearch beam extra c.params) c)
 unfolding closeOut closeKept closeDone closeNumber setting_of close closedIds wideIds wideRow pruneIds
@@ -72,7 +72,7 @@ pub data ActsAsOne : Float → Type 0 where
   below_one : {alpha : Float} → lt alpha one ≡ true → ActsAsOne alpha
 
 abbrev pub withAlpha : Float → Params → Params
-withAlpha alpha p = record { degree = p.degree; beam = p.beam; alpha = alpha; metric = p.metric; extra = p.extra }
+withAlpha alpha p = record { degree = p.degree; beam = p.beam; alpha = alpha; extra = p.extra }
 
 -- such an alpha is not above 1.0
 acts-low : (alpha : Float) → ActsAsOne alpha → lt one alpha ≡ false
@@ -100,8 +100,8 @@ module _ (c : BatchCall) (h : ActsAsOne c.params.alpha) where
   batch-wide : (batchDone c).wide ≡ (batchDone batchOne).wide
   unfolding batchDone setting_of
   batch-wide =
-      batch-alike c.n (between (buildSpace c.n c.dim c.vectors c.params)) c.params.degree c.params.beam c.params.alpha one
-      (target c.params h) c.start c.params.extra c.nodes c.seeds c.wide
+      batch-alike c.n (between c.dim c.vectors) c.params.degree c.params.beam c.params.alpha one (target c.params h) c.start
+      c.params.extra c.nodes c.seeds c.wide
 
   pub batch-alpha-one : batchOut c ≡ batchOut (batchBy (withAlpha one c.params) c)
   unfolding batchOut batchKept batchDone
@@ -127,8 +127,7 @@ module _ (c : CloseCall) (h : ActsAsOne c.params.alpha) where
   close-closed : (closeDone c).closed ≡ (closeDone closeOne).closed
   unfolding closeDone setting_of
   close-closed =
-      close-alike c.n (between (buildSpace c.n c.dim c.vectors c.params)) c.params.degree c.params.beam c.params.alpha one
-      (target c.params h) c.wide
+      close-alike c.n (between c.dim c.vectors) c.params.degree c.params.beam c.params.alpha one (target c.params h) c.wide
 
   pub close-alpha-one : closeOut c ≡ closeOut (closeBy (withAlpha one c.params) c)
   unfolding closeOut closeKept closeDone
@@ -154,14 +153,13 @@ module _ (c : BuildCall) (h : ActsAsOne c.params.alpha) where
   build-wide : builtWide c ≡ builtWide buildOne
   unfolding builtWide built setting_of
   build-wide =
-      batches-alike c.n (between (buildSpace c.n c.dim c.vectors c.params)) c.params.degree c.params.beam c.params.alpha one
-      (target c.params h) c.start c.params.extra (length c.order) c.order c.seeds (open' c.n c.params.degree c.opening)
+      batches-alike c.n (between c.dim c.vectors) c.params.degree c.params.beam c.params.alpha one (target c.params h) c.start
+      c.params.extra (length c.order) c.order c.seeds (open' c.n c.params.degree c.opening)
 
   build-closed : (buildDone c).closed ≡ (buildDone buildOne).closed
   unfolding buildDone setting_of
   build-closed =
-      close-alike c.n (between (buildSpace c.n c.dim c.vectors c.params)) c.params.degree c.params.beam c.params.alpha one
-      (target c.params h) (builtWide c)
+      close-alike c.n (between c.dim c.vectors) c.params.degree c.params.beam c.params.alpha one (target c.params h) (builtWide c)
       ∙ ap (close (setting_of c.n c.dim c.vectors (withAlpha one c.params))) build-wide
 
   pub build-alpha-one : buildOut c ≡ buildOut (buildBy (withAlpha one c.params) c)

@@ -15,7 +15,6 @@ withBeam beam c =
       n = c.n;
       dim = c.dim;
       vectors = c.vectors;
-      metric = c.metric;
       degree = c.degree;
       beam = beam;
       k = c.k;

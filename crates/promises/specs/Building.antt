@@ -81,13 +81,12 @@ module _ (c : BuildCall) (e : buildNumber c ≡ 0) where
       (pass 3 _ _ p.degree
       (pass 4 _ _ p.beam
       (pass 5 _ _ p.alpha
-      (pass 18 _ _ p.metric
       (pass 6 _ _ p.start
       (pass 7 _ _ (seeds-passes c.n c.params.extra c.start (length nodes) own (build-accepted c e).seeds.limits t.size t.good)
       (pass 8 _ _ (table-passes c.n (slack c.params.degree) wide low k)
       (pass 9 _ _ (nodes-passes c.n nodes (omega (arith, length-take 256 order)) t.below t.once)
       (pass 10 _ _ (room-passes c.n words floats r.words-enough r.floats-enough)
-      refl))))))))))
+      refl)))))))))
 
   run-leaves : (b : BatchCall) → batchNumber b ≡ 0
       → (batchOut b).wide ≡ batch (setting_of b.n b.dim b.vectors b.params) b.start b.params.extra b.nodes b.seeds b.wide
@@ -135,11 +134,10 @@ module _ (c : BuildCall) (e : buildNumber c ≡ 0) where
         (pass 2 _ _ p.vectors
         (pass 3 _ _ p.degree
         (pass 5 _ _ p.alpha
-        (pass 18 _ _ p.metric
         (pass 8 _ _
         (neither-or (badTable c.n width (buildOut c).wide) (badLength c.n c.params.degree closed)
         (table-passes c.n width (buildOut c).wide low (build-keeps-rows c e).0) (length-passes c.n c.params.degree closed size))
-        (pass 10 _ _ (room-passes c.n words floats r.words-enough r.floats-enough) refl))))))
+        (pass 10 _ _ (room-passes c.n words floats r.words-enough r.floats-enough) refl)))))
 
     closing-leaves : (closeOut (closingCall c (buildOut c).wide closed words floats)).closed ≡ (buildOut c).closed
     unfolding closeOut closeDone buildDone

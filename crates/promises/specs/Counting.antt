@@ -271,7 +271,6 @@ leavingCall =
       n = 4;
       dim = 1;
       vectors = 5 ∷ 15 ∷ 20 ∷ 25 ∷ [];
-      metric = 0;
       degree = 2;
       beam = 2;
       k = 2;

@@ -14,8 +14,7 @@ use Rattle.definition.specs.Metric.{fromQuery, whole}
 use Rattle.definition.specs.Beam.{Item, item}
 use Rattle.definition.specs.Search.{listedFirst}
 use Rattle.definition.specs.Refusals.{ExhaustiveCall, exhaustiveNumber}
-use Rattle.definition.specs.Outcome.{answer, refused, exhaustiveSpace, nearestTo}
-use Rattle.definition.specs.Outcome.{ExhaustiveOut, ExhaustiveMeets, exhaustiveOut, exhaustiveKept, exhaustiveDone}
+use Rattle.definition.specs.Outcome.{answer, refused, nearestTo, ExhaustiveOut, ExhaustiveMeets, exhaustiveOut, exhaustiveKept, exhaustiveDone}
 use Rattle.laws.specs.Mapped.{map_same}
 use Rattle.laws.specs.Apart.{apart-nodup}
 use Rattle.laws.specs.Sorting.{Ordered, none, more}
@@ -27,7 +26,7 @@ use Rattle.promises.specs.Outcomes.{exhaustive-is}
 
 -- the distance from the query to an entry, and the entry as it is listed
 abbrev pub distanceFrom : ExhaustiveCall → ℕ → ℕ
-distanceFrom c = fromQuery (exhaustiveSpace c) c.query
+distanceFrom c = fromQuery c.dim c.vectors c.query
 
 abbrev pub entry : ExhaustiveCall → ℕ → Item
 entry c i = item (distanceFrom c i) i

@@ -8,7 +8,7 @@ use Rattle.std.proofs.lemmas.Bool.{lt-leb}
 use Rattle.definition.specs.declared.Candidate.{Candidate}
 use Rattle.definition.specs.Tables.{pad}
 use Rattle.definition.specs.Refusals.{SearchCall, FitCall, CloseCall, BuildCall, searchNumber, searchNumberAt, recordsNumber, fitNumber, closeNumber}
-use Rattle.definition.specs.Refusals.{buildNumber, ◌when◌else◌, badDim, badCount, badVectors, badDegree, badBeam, badMetric, badStart, badSearched}
+use Rattle.definition.specs.Refusals.{buildNumber, ◌when◌else◌, badDim, badCount, badVectors, badDegree, badBeam, badStart, badSearched}
 use Rattle.definition.specs.Outcome.{searchOut, lookupOut, closeOut, buildOut}
 use Rattle.laws.specs.Truth.{neither-or}
 use Rattle.theory.specs.Kept.{TableKept}
@@ -114,35 +114,30 @@ pub record Sound (c : SearchCall) : Type 0 where
   pub dim-few : c.dim ≤ 256
   pub vectors-are : length c.vectors ≡ c.n * c.dim
   pub beam-few : c.beam ≤ 256
-  pub metric-known : c.metric ≤ 1
   pub start-in : 1 ≤ c.n → c.start < c.n
 
-chain : (a b g h m e f : Bool) (x : ℕ) → a ≡ false → h ≡ false → m ≡ false → (b ≡ false → e ≡ false) → (2 when b else 3 when g else 8 when f else 0) ≢ 0
-    → (1 when a else 2 when b else 3 when g else 4 when h else 18 when m else 6 when e else 8 when f else x) ≡ (2 when b else 3 when g else 8 when f else 0)
+chain : (a b g h e f : Bool) (x : ℕ) → a ≡ false → h ≡ false → (b ≡ false → e ≡ false) → (2 when b else 3 when g else 8 when f else 0) ≢ 0
+    → (1 when a else 2 when b else 3 when g else 4 when h else 6 when e else 8 when f else x) ≡ (2 when b else 3 when g else 8 when f else 0)
 unfolding ◌when◌else◌
-chain true b g h m e f x p q l r s = absurd (true≢false p)
-chain false true g h m e f x p q l r s = refl
-chain false false true h m e f x p q l r s = refl
-chain false false false true m e f x p q l r s = absurd (true≢false q)
-chain false false false false true e f x p q l r s = absurd (true≢false l)
-chain false false false false false true f x p q l r s = absurd (true≢false (r refl))
-chain false false false false false false true x p q l r s = refl
-chain false false false false false false false x p q l r s = absurd (s refl)
+chain true b g h e f x p q r s = absurd (true≢false p)
+chain false true g h e f x p q r s = refl
+chain false false true h e f x p q r s = refl
+chain false false false true e f x p q r s = absurd (true≢false q)
+chain false false false false true f x p q r s = absurd (true≢false (r refl))
+chain false false false false false true x p q r s = refl
+chain false false false false false false x p q r s = absurd (s refl)
 
 number-foretold : (tooShort : Bool) (c : SearchCall) → Sound c → fitNumber (fitOf c) ≢ 0 → searchNumberAt tooShort c ≡ fitNumber (fitOf c)
-unfolding searchNumberAt fitNumber badDim badVectors badBeam badMetric badStart
+unfolding searchNumberAt fitNumber badDim badVectors badBeam badStart
 number-foretold tooShort c h some =
     let right : not (eqb (length c.vectors) (c.n * c.dim)) ≡ false = ap not (eq-eqb _ _ h.vectors-are) in
-    rw (right, or-false (badCount c.n)) (chain (badDim c.dim) (badCount c.n) _ _ _ _ _ _ dim beam metric start some)
+    rw (right, or-false (badCount c.n)) (chain (badDim c.dim) (badCount c.n) _ _ _ _ _ dim beam start some)
   where
     dim : badDim c.dim ≡ false
     dim = let d = h.dim-some in neither-or (eqb c.dim 0) (ltb 256 c.dim) (ne_eqb c.dim 0 (λ z. omega arith)) (le-ltb 256 c.dim h.dim-few)
 
     beam : badBeam c.beam ≡ false
     beam = le-ltb 256 c.beam h.beam-few
-
-    metric : badMetric c.metric ≡ false
-    metric = le-ltb 1 c.metric h.metric-known
 
     start : badCount c.n ≡ false → badStart c.n c.start ≡ false
     start e = lt-leb c.n c.start (h.start-in (count-good c.n e).0)

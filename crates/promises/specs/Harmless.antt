@@ -35,7 +35,6 @@ withTable table c =
       n = c.n;
       dim = c.dim;
       vectors = c.vectors;
-      metric = c.metric;
       degree = c.degree;
       beam = c.beam;
       k = c.k;

@@ -14,9 +14,8 @@
 --   Fitting             fit: what 0 says, and what it says of a search and of a lookup
 --   Exhausting          exhaustive search: the nearest of all, and what is left out
 --   Reporting           the report of recall: what its counts say of each other, when it counts all, and that it is its calls
---   Seeking             the program `seek`: what it prints, read back, tells and excludes the same; 10, 11 and 18 never come from it
+--   Seeking             the program `seek`: what it prints, read back, tells and excludes the same; 10 and 11 never come from it
 --   Saturated           5/13: what the distance call tells; that nothing turns on what stands against a saturated sample
---   Absolute            8/13: the absolute metric, that any other number is refused, and that the metric matters
 --   Medoid              the medoid's score, and that the least wins
 --   Drawn               what is drawn is acceptable; rows are full; how soon a seed is found
 -- Statements over one part alone stand in theory: what a distance is (Metric), the test of 8 (Rule), what pruning leaves (prune.Pruned), that no loop is cut
@@ -31,7 +30,6 @@ pub mod Counting
 pub mod BeamZero
 pub mod Harmless
 pub mod LookingUp
-pub mod Absolute
 pub mod Exhausting
 pub mod Reporting
 pub mod Seeking

@@ -8,8 +8,8 @@ use Rattle.std.proofs.Math.Bool.{or-true}
 use mathlib.Core.List.{List, [], ◌∷◌, Memᴰ as Mem}
 use Rattle.definition.specs.Lists.{keep, onceOnly}
 use Rattle.definition.specs.Tables.{pad, row, ids, searchRule, cleaned}
-use Rattle.definition.specs.Refusals.{SearchCall, searchNumber, searchNumberAt, searchShort, ◌when◌else◌, badDim, badVectors, badDegree, badBeam}
-use Rattle.definition.specs.Refusals.{badMetric, badStart, badLength, badSearched}
+use Rattle.definition.specs.Refusals.{SearchCall, searchNumber, searchNumberAt, searchShort, ◌when◌else◌, badDim, badVectors, badDegree, badBeam, badStart}
+use Rattle.definition.specs.Refusals.{badLength, badSearched}
 use Rattle.definition.specs.Outcome.{answer, searchAnswer, refused, SearchOut, searchOut, searchKept, searchDone, cleanedCall, lookupOut, LookupMeets}
 use Rattle.laws.specs.Truth.{decide, is-not}
 use Rattle.laws.specs.Members.{keep-mem, mem-keep}
@@ -31,7 +31,6 @@ lookupNumber c =
     2 when badVectors c.n c.dim c.vectors else
     3 when badDegree c.degree else
     4 when badBeam c.beam else
-    18 when badMetric c.metric else
     6 when badStart c.n c.start else
     8 when badLength c.n c.degree c.table else
     10 when searchShort c else
@@ -74,19 +73,17 @@ unfolding lookupOut
 lookup-is-search c rule = ap searchOut (cleaned-call c rule)
 
 -- where check 8 holds and is not the number returned, an earlier one is, whatever the later ones say
-earlier : (a b c d e f g : Bool) (x y : ℕ)
-    → (1 when a else 2 when b else 3 when c else 4 when d else 18 when e else 6 when f else 8 when true else x) ≢ 8
-    → ((1 when a else 2 when b else 3 when c else 4 when d else 18 when e else 6 when f else 8 when true else x)
-    ≡ (1 when a else 2 when b else 3 when c else 4 when d else 18 when e else 6 when f else 8 when g else y))
-    × ((1 when a else 2 when b else 3 when c else 4 when d else 18 when e else 6 when f else 8 when true else x) ≢ 0)
+earlier : (a b c d e f : Bool) (x y : ℕ) → (1 when a else 2 when b else 3 when c else 4 when d else 6 when e else 8 when true else x) ≢ 8
+    → ((1 when a else 2 when b else 3 when c else 4 when d else 6 when e else 8 when true else x)
+    ≡ (1 when a else 2 when b else 3 when c else 4 when d else 6 when e else 8 when f else y))
+    × ((1 when a else 2 when b else 3 when c else 4 when d else 6 when e else 8 when true else x) ≢ 0)
 unfolding ◌when◌else◌
-earlier true b c d e f g x y h = (refl, λ z. omega arith)
-earlier false true c d e f g x y h = (refl, λ z. omega arith)
-earlier false false true d e f g x y h = (refl, λ z. omega arith)
-earlier false false false true e f g x y h = (refl, λ z. omega arith)
-earlier false false false false true f g x y h = (refl, λ z. omega arith)
-earlier false false false false false true g x y h = (refl, λ z. omega arith)
-earlier false false false false false false g x y h = absurd (h refl)
+earlier true b c d e f x y h = (refl, λ z. omega arith)
+earlier false true c d e f x y h = (refl, λ z. omega arith)
+earlier false false true d e f x y h = (refl, λ z. omega arith)
+earlier false false false true e f x y h = (refl, λ z. omega arith)
+earlier false false false false true f x y h = (refl, λ z. omega arith)
+earlier false false false false false f x y h = absurd (h refl)
 
 stray-bad : (n degree : ℕ) (table : List ℕ) → searchRule n table ≡ false → badSearched n degree table ≡ true
 unfolding badSearched
@@ -96,7 +93,7 @@ stray-earlier : (c : SearchCall) → searchRule c.n c.table ≡ false → search
 unfolding searchNumber searchNumberAt lookupNumber
 stray-earlier c stray h =
     let bad = stray-bad c.n c.degree c.table stray in
-    rw bad (earlier _ _ _ _ _ _ (badLength c.n c.degree c.table) _ _ (rw bad at h))
+    rw bad (earlier _ _ _ _ _ (badLength c.n c.degree c.table) _ _ (rw bad at h))
 
 -- on any table: where search does not say 8
 pub lookup-unless-8 : (c : SearchCall) → searchNumber c ≢ 8 → lookupOut c ≡ searchOut c

@@ -16,7 +16,7 @@ use Rattle.definition.specs.Search.{ranked, searched, answers}
 use Rattle.definition.specs.Recall.{inBoth, hits}
 use Rattle.definition.specs.Refusals.{ReportCall, reportNumber}
 use Rattle.definition.specs.Outcome.{byNumber, SearchOut, SearchMeets, foundIds, found, ExhaustiveOut, ExhaustiveMeets, nearestTo}
-use Rattle.definition.specs.Outcome.{reported, reportSpace, queryCount, askedEach, hitsAt, allHits, ReportOut, ReportMeets, reportOut, reportKept, reportDone}
+use Rattle.definition.specs.Outcome.{reported, queryCount, askedEach, hitsAt, allHits, ReportOut, ReportMeets, reportOut, reportKept, reportDone}
 use Rattle.laws.specs.Members.{length-upto}
 use Rattle.laws.specs.Tables.{row-mem}
 use Rattle.theory.specs.Rule.{searchRule-mem}
@@ -58,7 +58,7 @@ module _ (c : ReportCall) (a : ReportAccepted c) where
   abbrev ground : ℕ → Ground
   ground q =
       record {
-        d = fromQuery (reportSpace c) (vector c.dim c.queries q);
+        d = fromQuery c.dim c.vectors (vector c.dim c.queries q);
         rows = row c.degree c.table;
         n = c.n;
         beam = max c.beam 1;

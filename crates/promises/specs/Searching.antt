@@ -14,7 +14,7 @@ use Rattle.definition.specs.Beam.{Item, nobody, best}
 use Rattle.definition.specs.Greedy.{State, greedy}
 use Rattle.definition.specs.Search.{listedFirst, ranked, searched, answers}
 use Rattle.definition.specs.Refusals.{SearchCall, searchNumber}
-use Rattle.definition.specs.Outcome.{searchSpace, found, foundIds}
+use Rattle.definition.specs.Outcome.{found, foundIds}
 use Rattle.laws.specs.Sorting.{Ordered, mem-sort, take-ordered, ordered-across, ordered-pairwise}
 use Rattle.laws.specs.Items.{ids_of, listed-higher}
 use Rattle.theory.specs.search.Tells.{SearchTells, Excludes}
@@ -28,7 +28,7 @@ abbrev pub rows_of : SearchCall → ℕ → List ℕ
 rows_of c = row c.degree c.table
 
 abbrev pub distanceTo : SearchCall → ℕ → ℕ
-distanceTo c = fromQuery (searchSpace c) c.query
+distanceTo c = fromQuery c.dim c.vectors c.query
 
 -- the distance of the last answer; 0 where there is none, which is only so with k = 0
 abbrev pub lastDistance : SearchCall → ℕ
@@ -47,14 +47,14 @@ module _ (c : SearchCall) (a : SearchAccepted c) where
   unfolding found answers ranked searched
   found-is = refl
 
-  pub search-tells : SearchTells (row c.degree c.table) (fromQuery (searchSpace c) c.query) c.start (min c.k (max c.beam 1))
+  pub search-tells : SearchTells (row c.degree c.table) (fromQuery c.dim c.vectors c.query) c.start (min c.k (max c.beam 1))
       (foundIds c) (lastDistance c)
   unfolding foundIds best
   search-tells =
       subst (λ (l : List Item). SearchTells rows d c.start (min c.k beam) (ids_of l) (best l).dist) (sym found-is)
       (stopped-tells g end (greedy-done g) c.k)
 
-  pub search-excludes : Excludes (row c.degree c.table) (fromQuery (searchSpace c) c.query) c.start (foundIds c) (lastDistance c)
+  pub search-excludes : Excludes (row c.degree c.table) (fromQuery c.dim c.vectors c.query) c.start (foundIds c) (lastDistance c)
   unfolding foundIds best
   search-excludes =
       subst (λ (l : List Item). Excludes rows d c.start (ids_of l) (best l).dist) (sym found-is) (stopped-excludes g end (greedy-done g) c.k)
@@ -68,7 +68,7 @@ module _ (c : SearchCall) (a : SearchAccepted c) where
   search-ordered = ordered-pairwise search-order
 
   -- "cut to k": what the search holds at its end and does not answer is listed after every answer
-  pub search-cut : (x y : Item) → Mem x (searched (fromQuery (searchSpace c) c.query) (row c.degree c.table) c.n c.beam c.start).work
+  pub search-cut : (x y : Item) → Mem x (searched (fromQuery c.dim c.vectors c.query) (row c.degree c.table) c.n c.beam c.start).work
       → ¬ Mem x (found c)
       → Mem y (found c)
       → listedFirst y x ≡ true
@@ -89,7 +89,7 @@ module _ (c : SearchCall) (a : SearchAccepted c) where
           (subst (λ (l : List Item). Mem y l) found-is answered) m
 
   -- so of equals the newer are answered: what is not answered and is as far as an answer has a lower id
-  pub search-newer : (x y : Item) → Mem x (searched (fromQuery (searchSpace c) c.query) (row c.degree c.table) c.n c.beam c.start).work
+  pub search-newer : (x y : Item) → Mem x (searched (fromQuery c.dim c.vectors c.query) (row c.degree c.table) c.n c.beam c.start).work
       → ¬ Mem x (found c)
       → Mem y (found c)
       → x.dist ≡ y.dist
@@ -98,7 +98,7 @@ module _ (c : SearchCall) (a : SearchAccepted c) where
 
 -- where k is at least the beam, a beam of 0 read as 1, the beam's number is asked for
 pub search-claim : (c : SearchCall) → searchNumber c ≡ 0 → max c.beam 1 ≤ c.k
-    → SearchTells (row c.degree c.table) (fromQuery (searchSpace c) c.query) c.start (max c.beam 1) (foundIds c) (lastDistance c)
+    → SearchTells (row c.degree c.table) (fromQuery c.dim c.vectors c.query) c.start (max c.beam 1) (foundIds c) (lastDistance c)
 search-claim c e enough =
-    subst (λ (b : ℕ). SearchTells (row c.degree c.table) (fromQuery (searchSpace c) c.query) c.start b (foundIds c) (lastDistance c))
+    subst (λ (b : ℕ). SearchTells (row c.degree c.table) (fromQuery c.dim c.vectors c.query) c.start b (foundIds c) (lastDistance c))
     (omega arith) (search-tells c (search-accepted c e))

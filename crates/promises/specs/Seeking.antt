@@ -1,5 +1,5 @@
--- The program `seek`: it lends room enough, takes a query of dim values and keeps metric 0, so that of the numbers that concern a search 10, 11 and 18 never
--- come from a text; and demand 3, second sentence, over what it prints, as it is read back.
+-- The program `seek`: it lends room enough and takes a query of dim values, so that of the numbers that concern a search 10 and 11 never come from a text; and
+-- demand 3, second sentence, over what it prints, as it is read back.
 use Rattle.std.specs.Prelude.{ℕ, zero, suc, ◌-◌, ◌≤◌, ◌<◌, max, min, ◌≡◌, refl, ◌≢◌, Bool, true, false, not, leb, ltb, length}
 use native.Mathlib.Omega.{arith}
 use Rattle.std.proofs.Common.{sym, ap₂, ◌∙◌, subst}
@@ -13,9 +13,9 @@ use Rattle.std.proofs.Math.Seq.{append_snoc}
 use Rattle.definition.specs.Lists.{joined, isIn}
 use Rattle.definition.specs.Beam.{Item, nobody}
 use Rattle.definition.specs.Search.{listedFirst}
-use Rattle.definition.specs.Refusals.{SearchCall, searchNumber, searchNumberAt, ◌when◌else◌, badMetric}
-use Rattle.definition.specs.Outcome.{searchSpace, found, foundIds, byNumber}
-use Rattle.definition.specs.Seek.{values, theQuery}
+use Rattle.definition.specs.Refusals.{SearchCall, searchNumber, searchNumberAt, ◌when◌else◌}
+use Rattle.definition.specs.Outcome.{found, foundIds, byNumber}
+use Rattle.definition.specs.Seek.{values, theDim, theVectors, theQuery}
 use Rattle.definition.specs.Seek.{wellFormed, seekCall, mostInput, malformed, seekNumber, isDigit, decimal, printRefused, printItem, printFound, seek}
 use Rattle.laws.specs.Truth.{and_both, or-neither}
 use Rattle.laws.specs.Members.{each-mem, mem-at, isIn-mem, isIn-none}
@@ -51,10 +51,10 @@ unfolding ◌when◌else◌
 cannot k {r = r} e q = subst (λ (b : Bool). Mem (k when b else r) seekNumbers) (sym e) q
 
 searched-numbers : (vs : List ℕ) → wellFormed vs ≡ true → Mem (searchNumber (seekCall vs)) seekNumbers
-unfolding searchNumber searchNumberAt seekCall seekNumbers isIn badMetric
+unfolding searchNumber searchNumberAt seekCall seekNumbers isIn
 searched-numbers vs t =
-    may 1 _ refl (may 2 _ refl (may 3 _ refl (may 4 _ refl (cannot 18 refl (may 6 _ refl (may 8 _ refl
-    (cannot 10 (seek-room vs) (cannot 11 (ap not (eq-eqb _ _ (query-length vs t))) (here refl)))))))))
+    may 1 _ refl (may 2 _ refl (may 3 _ refl (may 4 _ refl (may 6 _ refl (may 8 _ refl
+    (cannot 10 (seek-room vs) (cannot 11 (ap not (eq-eqb _ _ (query-length vs t))) (here refl))))))))
 
 pub seek-numbers : (text : List ℕ) → Mem (seekNumber text) seekNumbers
 unfolding seekNumber seekNumbers isIn ◌when◌else◌
@@ -64,9 +64,9 @@ seek-numbers text = go (malformed text) refl
     go true e = isIn-mem 13 seekNumbers refl
     go false e = searched-numbers (values text) (formed text e)
 
-pub seek-never-short : (text : List ℕ) → (seekNumber text ≢ 10) × (seekNumber text ≢ 11) × (seekNumber text ≢ 18)
+pub seek-never-short : (text : List ℕ) → (seekNumber text ≢ 10) × (seekNumber text ≢ 11)
 unfolding seekNumbers isIn
-seek-never-short text = (never 10 refl, never 11 refl, never 18 refl)
+seek-never-short text = (never 10 refl, never 11 refl)
   where
     never : (k : ℕ) → isIn k seekNumbers ≡ false → seekNumber text ≢ k
     never k f e = isIn-none k seekNumbers f (subst (λ (m : ℕ). Mem m seekNumbers) e (seek-numbers text))
@@ -101,7 +101,7 @@ module _ (text : List ℕ) (z : seekNumber text ≡ 0) where
   distance_most i =
       let vs = values text in
       let bytes = text-bytes vs well in
-      query-small (searchSpace call) (theQuery vs) (omega (arith, accepted.dim-few, query-length vs well)) bytes.0 bytes.1 i
+      query-small (theDim vs) (theVectors vs) (theQuery vs) (omega (arith, accepted.dim-few, query-length vs well)) bytes.0 bytes.1 i
 
   small : (x : Item) → Mem x (found call) → Small x
   small x m =

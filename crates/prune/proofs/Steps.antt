@@ -11,7 +11,7 @@ use lib.Ieee.{Float, nan, lt, of_bits, binary32}
 use lib.ListN.{length, get_or, take, drop, set, length-set}
 use lib.Seq.{take-suc-set}
 use Rattle.definition.specs.Beam.{Item, item}
-use Rattle.definition.specs.Metric.{Space, between}
+use Rattle.definition.specs.Metric.{between}
 use Rattle.definition.specs.Floats.{largest, above, one}
 use Rattle.definition.specs.Prune.{rounds, shadeAll, nextAlpha, target_of, mostRounds}
 use Rattle.laws.specs.Truth.{either}
@@ -20,48 +20,48 @@ use Rattle.prune.specs.Says.{shadedFrom, roundsOf, Taken}
 use Rattle.prune.proofs.Walking.{onward, onward-start, onward-skip, onward-take, onward-end, onward-full}
 
 -- what a round takes from place i on, with room for so many, and the rounds after it
-abbrev still : (s : Space) (ids dists : List ℕ) (target : Float) (fuel : ℕ) (current : Float) (room : ℕ) (fs : List Float) (i : ℕ) → List ℕ
-still s ids dists target fuel current room fs i = onward (between s) target fuel current room (items_of ids dists) fs i
+abbrev still : (dim : ℕ) (vectors ids dists : List ℕ) (target : Float) (fuel : ℕ) (current : Float) (room : ℕ) (fs : List Float) (i : ℕ) → List ℕ
+still dim vectors ids dists target fuel current room fs i = onward (between dim vectors) target fuel current room (items_of ids dists) fs i
 
 -- what stands in the row once the round is over that began with these factors and this row, and the rounds after it
-abbrev pub fromRound : (s : Space) (ids dists : List ℕ) (target current : Float) (degree round : ℕ) (fs : List Float) (row : List ℕ)
+abbrev pub fromRound : (dim : ℕ) (vectors ids dists : List ℕ) (target current : Float) (degree round : ℕ) (fs : List Float) (row : List ℕ)
     (taken : ℕ) → List ℕ
-fromRound s ids dists target current degree round fs row taken =
-    take taken row ++ still s ids dists target (8 - round) current (degree - taken) fs 0
+fromRound dim vectors ids dists target current degree round fs row taken =
+    take taken row ++ still dim vectors ids dists target (8 - round) current (degree - taken) fs 0
 
 -- within a round
-pub record Walk (s : Space) (ids dists : List ℕ) (target : Float) (fuel : ℕ) (current : Float) (degree : ℕ) (all : List ℕ) (size : ℕ)
+pub record Walk (dim : ℕ) (vectors ids dists : List ℕ) (target : Float) (fuel : ℕ) (current : Float) (degree : ℕ) (all : List ℕ) (size : ℕ)
     (fs : List Float) (row : List ℕ) (taken i : ℕ) : Type 0 where
   pub le : i ≤ length ids
   pub few : taken ≤ degree
   pub nf : length fs ≡ length ids
   pub nr : length row ≡ size
-  pub is : take taken row ++ still s ids dists target fuel current (degree - taken) fs i ≡ all
+  pub is : take taken row ++ still dim vectors ids dists target fuel current (degree - taken) fs i ≡ all
 
 -- between rounds
-pub record Going (s : Space) (ids dists : List ℕ) (target : Float) (degree : ℕ) (all : List ℕ) (size : ℕ)
+pub record Going (dim : ℕ) (vectors ids dists : List ℕ) (target : Float) (degree : ℕ) (all : List ℕ) (size : ℕ)
     (fs : List Float) (row : List ℕ) (current : Float) (taken round : ℕ) : Type 0 where
   pub before : round < 9
   pub few : taken ≤ degree
   pub nf : length fs ≡ length ids
   pub nr : length row ≡ size
-  pub is : take taken row ++ rounds (between s) target (9 - round) current (degree - taken) (items_of ids dists) fs ≡ all
+  pub is : take taken row ++ rounds (between dim vectors) target (9 - round) current (degree - taken) (items_of ids dists) fs ≡ all
 
-pub going-first : {s : Space} {ids dists : List ℕ} {target : Float} {degree : ℕ} (alpha : Float) (fs : List Float) (row : List ℕ)
+pub going-first : {dim : ℕ} {vectors ids dists : List ℕ} {target : Float} {degree : ℕ} (alpha : Float) (fs : List Float) (row : List ℕ)
     → target ≡ target_of alpha → length fs ≡ length ids
-    → Going s ids dists target degree (roundsOf s ids dists degree alpha fs) (length row) fs row (of_bits binary32 0x3F800000) 0 0
+    → Going dim vectors ids dists target degree (roundsOf dim vectors ids dists degree alpha fs) (length row) fs row (of_bits binary32 0x3F800000) 0 0
 unfolding roundsOf mostRounds one
 going-first {degree = degree} alpha fs row e nf = record { before = omega arith; few = omega arith; nf = nf; nr = refl; is = rw (sub-zero degree, e) refl }
 
-module _ {s : Space} {ids dists : List ℕ} {target : Float} {degree : ℕ} where
+module _ {dim : ℕ} {vectors ids dists : List ℕ} {target : Float} {degree : ℕ} where
   pub walk_same : {fuel : ℕ} {current : Float} {all : List ℕ} {size : ℕ} {fs fs' : List Float} {row row' : List ℕ} {taken taken' i : ℕ}
-      → fs ≡ fs' → row ≡ row' → taken ≡ taken' → Walk s ids dists target fuel current degree all size fs' row' taken' i
-      → Walk s ids dists target fuel current degree all size fs row taken i
+      → fs ≡ fs' → row ≡ row' → taken ≡ taken' → Walk dim vectors ids dists target fuel current degree all size fs' row' taken' i
+      → Walk dim vectors ids dists target fuel current degree all size fs row taken i
   walk_same e f g w = rw (e, f, g) w
 
   -- a step to the next place
   module _ {fuel : ℕ} {current : Float} {all : List ℕ} {size : ℕ} {fs : List Float} {row : List ℕ} {taken i : ℕ}
-      (same : length ids ≡ length dists) (w : Walk s ids dists target fuel current degree all size fs row taken i)
+      (same : length ids ≡ length dists) (w : Walk dim vectors ids dists target fuel current degree all size fs row taken i)
       (h : i < length ids) (room : taken < degree) where
     abbrev cs : List Item
     cs = items_of ids dists
@@ -80,28 +80,28 @@ module _ {s : Space} {ids dists : List ℕ} {target : Float} {degree : ℕ} wher
     at = items_at i ids dists h (omega arith)
 
     abbrev then : ℕ → List Float → ℕ → List ℕ
-    then room fs i = still s ids dists target fuel current room fs i
+    then room fs i = still dim vectors ids dists target fuel current room fs i
 
-    pub walk-skip : lt current (get_or fs i nan) ≡ true → Walk s ids dists target fuel current degree all size fs row taken (i + 1)
+    pub walk-skip : lt current (get_or fs i nan) ≡ true → Walk dim vectors ids dists target fuel current degree all size fs row taken (i + 1)
     walk-skip t =
         let r : degree - taken ≡ suc (degree - taken - 1) = omega arith in
         let e : then (degree - taken) fs i ≡ then (degree - taken) fs (i + 1) =
-        rw r (onward-skip (between s) target fuel current cs fs nf i (degree - taken - 1) here (omega (arith, n)) at t) in
+        rw r (onward-skip (between dim vectors) target fuel current cs fs nf i (degree - taken - 1) here (omega (arith, n)) at t) in
         record { le = omega arith; few = w.few; nf = w.nf; nr = w.nr; is = ap (λ (l : List ℕ). take taken row ++ l) (sym e) ∙ w.is }
 
     pub walk-take : lt current (get_or fs i nan) ≡ false → degree ≤ size → {fs' : List Float} → length fs' ≡ length fs
-        → fs' ≡ shadedFrom s ids dists target (get_or ids i 0) (i + 1) (set fs i largest)
-        → Walk s ids dists target fuel current degree all size fs' (set row taken (get_or ids i 0)) (taken + 1) (i + 1)
+        → fs' ≡ shadedFrom dim vectors ids dists target (get_or ids i 0) (i + 1) (set fs i largest)
+        → Walk dim vectors ids dists target fuel current degree all size fs' (set row taken (get_or ids i 0)) (taken + 1) (i + 1)
     unfolding shadedFrom
     walk-take t wide {fs'} nf' e =
         let id = get_or ids i 0 in
         let fs₁ = set fs i largest in
         let r : degree - taken ≡ suc (degree - (taken + 1)) = omega arith in
-        let e' : fs' ≡ take (suc i) fs₁ ++ shadeAll (between s) target id (drop (suc i) cs) (drop (suc i) fs₁) = rw add-one at e in
+        let e' : fs' ≡ take (suc i) fs₁ ++ shadeAll (between dim vectors) target id (drop (suc i) cs) (drop (suc i) fs₁) = rw add-one at e in
         let more = then (degree - (taken + 1)) fs' (i + 1) in
         let o : then (degree - taken) fs i ≡ id ∷ more =
         ap (λ (z : ℕ). then z fs i) r
-        ∙ onward-take (between s) target fuel current cs fs nf i (degree - (taken + 1)) here (omega (arith, n)) at t fs' e' in
+        ∙ onward-take (between dim vectors) target fuel current cs fs nf i (degree - (taken + 1)) here (omega (arith, n)) at t fs' e' in
         let front : take (taken + 1) (set row taken id) ≡ take taken row ++ (id ∷ []) = rw add-one (take-suc-set row taken id (omega (arith, w.nr))) in
         record {
           le = omega arith;
@@ -114,12 +114,12 @@ module _ {s : Space} {ids dists : List ℕ} {target : Float} {degree : ℕ} wher
 
   -- a round within the rounds
   module _ {current : Float} {all : List ℕ} {size : ℕ} {fs₀ : List Float} {row₀ : List ℕ} {taken₀ round : ℕ}
-      (g : Going s ids dists target degree all size fs₀ row₀ current taken₀ round) where
+      (g : Going dim vectors ids dists target degree all size fs₀ row₀ current taken₀ round) where
     abbrev whole : List ℕ
-    whole = fromRound s ids dists target current degree round fs₀ row₀ taken₀
+    whole = fromRound dim vectors ids dists target current degree round fs₀ row₀ taken₀
 
     abbrev Here : List Float → List ℕ → ℕ → ℕ → Type 0
-    Here fs row taken i = Walk s ids dists target (8 - round) current degree whole (length row₀) fs row taken i
+    Here fs row taken i = Walk dim vectors ids dists target (8 - round) current degree whole (length row₀) fs row taken i
 
     pub walk_first : Here fs₀ row₀ taken₀ 0
     walk_first = record { le = omega arith; few = g.few; nf = g.nf; nr = refl; is = refl }
@@ -128,17 +128,17 @@ module _ {s : Space} {ids dists : List ℕ} {target : Float} {degree : ℕ} wher
     whole_is =
         let r : 9 - round ≡ suc (8 - round) = omega (arith, g.before) in
         let cs = items_of ids dists in
-        ap (λ (l : List ℕ). take taken₀ row₀ ++ l) (sym (onward-start (between s) target (8 - round) current (degree - taken₀) cs fs₀))
-        ∙ ap (λ (k : ℕ). take taken₀ row₀ ++ rounds (between s) target k current (degree - taken₀) cs fs₀) (sym r)
+        ap (λ (l : List ℕ). take taken₀ row₀ ++ l) (sym (onward-start (between dim vectors) target (8 - round) current (degree - taken₀) cs fs₀))
+        ∙ ap (λ (k : ℕ). take taken₀ row₀ ++ rounds (between dim vectors) target k current (degree - taken₀) cs fs₀) (sym r)
         ∙ g.is
 
     module _ {fs : List Float} {row : List ℕ} {taken i : ℕ} (same : length ids ≡ length dists) (w : Here fs row taken i) where
       -- what this round and the rounds after it still take; and the rounds after it alone
       abbrev rest : List ℕ
-      rest = still s ids dists target (8 - round) current (degree - taken) fs i
+      rest = still dim vectors ids dists target (8 - round) current (degree - taken) fs i
 
       abbrev after : ℕ → List ℕ
-      after k = rounds (between s) target k (nextAlpha target current) (degree - taken) (items_of ids dists) fs
+      after k = rounds (between dim vectors) target k (nextAlpha target current) (degree - taken) (items_of ids dists) fs
 
       ended : rest ≡ [] → Taken row taken degree all
       ended e =
@@ -147,13 +147,13 @@ module _ {s : Space} {ids dists : List ℕ} {target : Float} {degree : ℕ} wher
       pub full : degree ≤ taken → Taken row taken degree all
       full h =
           let r : degree - taken ≡ 0 = omega arith in
-          ended (rw r (onward-full (between s) target (8 - round) current (items_of ids dists) fs i))
+          ended (rw r (onward-full (between dim vectors) target (8 - round) current (items_of ids dists) fs i))
 
       module _ (over : length ids ≤ i) where
         past : rest ≡ cond (above target current) (after (8 - round)) []
         past =
             let n = items-length ids dists same in
-            onward-end (between s) target (8 - round) current (items_of ids dists) fs (w.nf ∙ sym n) i (degree - taken) (omega (arith, n))
+            onward-end (between dim vectors) target (8 - round) current (items_of ids dists) fs (w.nf ∙ sym n) i (degree - taken) (omega (arith, n))
 
         pub last-round : 9 ≤ round + 1 → Taken row taken degree all
         unfolding rounds
@@ -166,7 +166,7 @@ module _ {s : Space} {ids dists : List ℕ} {target : Float} {degree : ℕ} wher
         reached t = ended (past ∙ rw t refl)
 
         pub again : round + 1 < 9 → lt current target ≡ true → length row₀ ≡ size
-            → Going s ids dists target degree all size fs row (nextAlpha target current) taken (round + 1)
+            → Going dim vectors ids dists target degree all size fs row (nextAlpha target current) taken (round + 1)
         unfolding above
         again h t ns =
             let r : 8 - round ≡ 9 - (round + 1) = omega arith in

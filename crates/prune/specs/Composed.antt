@@ -5,7 +5,7 @@ use Rattle.std.proofs.Math.Path.{subst}
 use mathlib.Core.List.{List, [], ◌∷◌}
 use Rattle.definition.specs.Lists.{sort, isIn}
 use Rattle.definition.specs.Beam.{Item, nearer}
-use Rattle.definition.specs.Metric.{Space, between}
+use Rattle.definition.specs.Metric.{between}
 use Rattle.definition.specs.Prune.{unseen, cut, candidates, prunedFrom, prune}
 use Rattle.whole.specs.Whole.{limit}
 use Rattle.metric.specs.Exact.{VectorIn}
@@ -29,10 +29,10 @@ all-candidates : (P : Item → Type 0) (node : ℕ) (l : List Item) → All P l 
 unfolding candidates
 all-candidates P node l a = all-fresh P (node ∷ []) (take cut (sort nearer l)) (all_take P cut (sort nearer l) (all-sort nearer P l a))
 
-pub as-pool : {s : Space} {ids dists : List ℕ} → Measurable s ids dists → Pool ids dists
+pub as-pool : {dim : ℕ} {vectors ids dists : List ℕ} → Measurable dim vectors ids dists → Pool ids dists
 as-pool m = record { same = m.same; small = m.small }
 
-module _ (s : Space) (ids dists : List ℕ) (node : ℕ) (m : Measurable s ids dists) (apart : Distinct ids) (ci cd : List ℕ) (r : ℕ)
+module _ (dim : ℕ) (vectors ids dists : List ℕ) (node : ℕ) (m : Measurable dim vectors ids dists) (apart : Distinct ids) (ci cd : List ℕ) (r : ℕ)
     (ch : Chosen ids dists node ci cd r) (ni : 750 ≤ length ci) (nd : 750 ≤ length cd) where
   -- the first r of a list, as they are lent
   abbrev front : List ℕ → List ℕ
@@ -47,21 +47,21 @@ module _ (s : Space) (ids dists : List ℕ) (node : ℕ) (m : Measurable s ids d
   items-are : items_of (front ci) (front cd) ≡ candidates node (items_of ids dists)
   items-are = ap (λ (k : ℕ). items_of (take k ci) (take k cd)) zero-off ∙ ch.items apart
 
-  pub measurable : Measurable s (front ci) (front cd)
+  pub measurable : Measurable dim vectors (front ci) (front cd)
   measurable =
       let e : length (front ci) ≡ length (front cd) = front_length ∙ sym (length-take-le (r - 0) cd (omega (arith, ch.few)) ∙ zero-off) in
-      let In : Item → Type 0 = λ c. VectorIn s c.id in
+      let In : Item → Type 0 = λ c. VectorIn dim vectors c.id in
       let reach : All In (items_of (front ci) (front cd)) =
-      subst (All In) (sym items-are) (all-candidates In node (items_of ids dists) (items-ids (VectorIn s) ids dists m.rows)) in
+      subst (All In) (sym items-are) (all-candidates In node (items_of ids dists) (items-ids (VectorIn dim vectors) ids dists m.rows)) in
       record {
         same = e;
         narrow = m.narrow;
-        rows = ids-items (VectorIn s) (front ci) (front cd) e reach;
+        rows = ids-items (VectorIn dim vectors) (front ci) (front cd) e reach;
         small = subst (λ (k : ℕ). All (λ (d : ℕ). d ≤ limit) (take k cd)) (sym zero-off) ch.small;
       }
 
   pub pruned : (row : List ℕ) (k width degree : ℕ) (alpha : Float)
-      → Written row k width (prunedFrom (between s) degree alpha (items_of (front ci) (front cd)))
-      → Written row k width (prune (between s) degree alpha node (items_of ids dists))
+      → Written row k width (prunedFrom (between dim vectors) degree alpha (items_of (front ci) (front cd)))
+      → Written row k width (prune (between dim vectors) degree alpha node (items_of ids dists))
   unfolding prune
-  pruned row k width degree alpha w = subst (λ (l : List Item). Written row k width (prunedFrom (between s) degree alpha l)) items-are w
+  pruned row k width degree alpha w = subst (λ (l : List Item). Written row k width (prunedFrom (between dim vectors) degree alpha l)) items-are w

@@ -1,6 +1,6 @@
 -- What pruning's functions say.
 use Rattle.std.specs.Prelude.{◌≡◌, List, ◌++◌, ℕ, ◌≤◌, Float, length, take, drop}
-use Rattle.definition.specs.Metric.{Space, vector, between}
+use Rattle.definition.specs.Metric.{vector, between}
 use Rattle.definition.specs.Floats.{one}
 use Rattle.definition.specs.Prune.{shadeAll, rounds, target_of, mostRounds}
 use Rattle.whole.specs.Whole.{limit}
@@ -9,24 +9,24 @@ use Rattle.laws.specs.Paired.{items_of}
 use Rattle.laws.specs.All.{All}
 
 -- candidates that may be measured: as many ids as distances, each id an entry, each distance small
-pub record Measurable (s : Space) (ids dists : List ℕ) : Type 0 where
+pub record Measurable (dim : ℕ) (vectors ids dists : List ℕ) : Type 0 where
   pub same : length ids ≡ length dists
-  pub narrow : s.dim ≤ 256
-  pub rows : All (VectorIn s) ids
+  pub narrow : dim ≤ 256
+  pub rows : All (VectorIn dim vectors) ids
   pub small : All (λ (d : ℕ). d ≤ limit) dists
 
 -- the factors from place `from` on, shaded by the taken entry
-unfoldable pub shadedFrom : Space → List ℕ → List ℕ → Float → ℕ → ℕ → List Float → List Float
-shadedFrom s ids dists target taken from fs =
-    take from fs ++ shadeAll (between s) target taken (drop from (items_of ids dists)) (drop from fs)
+unfoldable pub shadedFrom : ℕ → List ℕ → List ℕ → List ℕ → Float → ℕ → ℕ → List Float → List Float
+shadedFrom dim vectors ids dists target taken from fs =
+    take from fs ++ shadeAll (between dim vectors) target taken (drop from (items_of ids dists)) (drop from fs)
 
 -- the same, whichever entry it is whose vector is the query
-pub record Shaded (s : Space) (query ids dists : List ℕ) (target : Float) (from : ℕ) (fs₀ fs : List Float) : Type 0 where
-  pub are : (taken : ℕ) → query ≡ vector s.dim s.vectors taken → fs ≡ shadedFrom s ids dists target taken from fs₀
+pub record Shaded (dim : ℕ) (vectors query ids dists : List ℕ) (target : Float) (from : ℕ) (fs₀ fs : List Float) : Type 0 where
+  pub are : (taken : ℕ) → query ≡ vector dim vectors taken → fs ≡ shadedFrom dim vectors ids dists target taken from fs₀
 
 -- the ids that the rounds take, from the factors given
-unfoldable pub roundsOf : Space → List ℕ → List ℕ → ℕ → Float → List Float → List ℕ
-roundsOf s ids dists degree alpha fs = rounds (between s) (target_of alpha) mostRounds one degree (items_of ids dists) fs
+unfoldable pub roundsOf : ℕ → List ℕ → List ℕ → List ℕ → ℕ → Float → List Float → List ℕ
+roundsOf dim vectors ids dists degree alpha fs = rounds (between dim vectors) (target_of alpha) mostRounds one degree (items_of ids dists) fs
 
 -- r words of the row are those ids
 pub record Taken (row : List ℕ) (r degree : ℕ) (ids : List ℕ) : Type 0 where

@@ -4,13 +4,13 @@ ghost use Rattle.definition.specs.Floats.{larger};
 ghost use Rattle.definition.specs.Metric.{between};
 ghost use Rattle.definition.specs.Prune.{target_of, increment, nextAlpha, quotient, prunedFrom, prune};
 ghost use Rattle.whole.specs.Whole.{limit};
-ghost use Rattle.metric.specs.Exact.{space, VectorIn};
+ghost use Rattle.metric.specs.Exact.{VectorIn};
 ghost use Rattle.laws.specs.Paired.{items_of};
 ghost use Rattle.prune_pool.specs.Says.{Distinct};
 ghost use Rattle.table.specs.Rows.{Written, Stretched};
 ghost use Rattle.prune.specs.Says.{Measurable, shadedFrom, Shaded, roundsOf, Taken};
 
-use metric::{Gauge, from_query};
+use metric::from_query;
 use prune_pool::choose;
 use table::{index_of, pad_from};
 
@@ -62,8 +62,8 @@ fn raised(factor: f32, dist: u32, apart: u32) -> f32
 
 // Every candidate from place `from` on whose factor isn't above target is shaded by the taken entry, whose vector is `query`.
 fn shade_rest(
-    g: Gauge,
     vectors: &[u8],
+    dim: usize,
     query: &[u8],
     ids: &[u32],
     dists: &[u32],
@@ -71,9 +71,9 @@ fn shade_rest(
     from: usize,
     target: f32,
 )
-    requires measurable { Measurable (space g vectors.now) ids.now dists.now }
-    requires factors_len { (length factors.old ≡ length ids.now) × (from ≤ length ids.now) × (length query.now ≡ g.dim) }
-    ensures { Shaded (space g vectors.now) query.now ids.now dists.now target from
+    requires measurable { Measurable dim vectors.now ids.now dists.now }
+    requires factors_len { (length factors.old ≡ length ids.now) × (from ≤ length ids.now) × (length query.now ≡ dim) }
+    ensures { Shaded dim vectors.now query.now ids.now dists.now target from
         factors.old factors.new }
 {
     let m = ids.len();
@@ -82,7 +82,7 @@ fn shade_rest(
         let factor = factors[j];
         if !(target < factor) {
             let other = index_of(ids[j]);
-            let apart = from_query(g, vectors, query, other);
+            let apart = from_query(dim, vectors, query, other);
             factors[j] = raised(factor, dists[j], apart);
         }
         j += 1;
@@ -91,8 +91,8 @@ fn shade_rest(
 
 // The same, for the taken entry by its id: its vector is lent once for all.
 fn shade_later(
-    g: Gauge,
     vectors: &[u8],
+    dim: usize,
     ids: &[u32],
     dists: &[u32],
     factors: &mut [f32],
@@ -100,17 +100,17 @@ fn shade_later(
     taken: usize,
     target: f32,
 )
-    requires measurable { Measurable (space g vectors.now) ids.now dists.now }
+    requires measurable { Measurable dim vectors.now ids.now dists.now }
     requires factors_len { (length factors.old ≡ length ids.now) × (from ≤ length ids.now) }
-    requires vector_in { VectorIn (space g vectors.now) taken }
+    requires vector_in { VectorIn dim vectors.now taken }
     ensures { factors.new
-        ≡ shadedFrom (space g vectors.now) ids.now dists.now target taken from factors.old }
+        ≡ shadedFrom dim vectors.now ids.now dists.now target taken from factors.old }
 {
-    let at = taken * g.dim;
-    let end = at + g.dim;
+    let at = taken * dim;
+    let end = at + dim;
     shade_rest(
-        g,
         vectors,
+        dim,
         &vectors[at..end],
         ids,
         dists,
@@ -122,8 +122,8 @@ fn shade_later(
 
 // The rounds over the candidates: the ids taken go to the front of the row. Returns how many there are.
 fn take_rounds(
-    g: Gauge,
     vectors: &[u8],
+    dim: usize,
     ids: &[u32],
     dists: &[u32],
     factors: &mut [f32],
@@ -131,10 +131,10 @@ fn take_rounds(
     degree: usize,
     alpha: f32,
 ) -> usize
-    requires measurable { Measurable (space g vectors.now) ids.now dists.now }
+    requires measurable { Measurable dim vectors.now ids.now dists.now }
     requires factors_len { (length factors.old ≡ length ids.now) × (degree ≤ length row.old) }
     ensures { Taken row.new result degree
-        (roundsOf (space g vectors.now) ids.now dists.now degree alpha factors.old) }
+        (roundsOf dim vectors.now ids.now dists.now degree alpha factors.old) }
 {
     let m = ids.len();
     let target = target_of(alpha);
@@ -153,7 +153,7 @@ fn take_rounds(
                 count += 1;
                 factors[i] = LARGEST;
                 let taken = index_of(id);
-                shade_later(g, vectors, ids, dists, factors, i + 1, taken, target);
+                shade_later(vectors, dim, ids, dists, factors, i + 1, taken, target);
             }
             i += 1;
         }
@@ -172,8 +172,8 @@ fn take_rounds(
 
 // The writer: the row that pruning gives from these candidates, then padding. Returns how many ids there are.
 fn write_pruned(
-    g: Gauge,
     vectors: &[u8],
+    dim: usize,
     ids: &[u32],
     dists: &[u32],
     factors: &mut [f32],
@@ -181,21 +181,21 @@ fn write_pruned(
     degree: usize,
     alpha: f32,
 ) -> usize
-    requires measurable { Measurable (space g vectors.now) ids.now dists.now }
+    requires measurable { Measurable dim vectors.now ids.now dists.now }
     requires factors_len { (length factors.old ≡ length ids.now) × (degree ≤ length row.old) }
     ensures { Written row.new result (length row.old)
-        (prunedFrom (between (space g vectors.now)) degree alpha (items_of ids.now dists.now)) }
+        (prunedFrom (between dim vectors.now) degree alpha (items_of ids.now dists.now)) }
 {
     scratch::clear_floats(factors);
-    let count = take_rounds(g, vectors, ids, dists, factors, row, degree, alpha);
+    let count = take_rounds(vectors, dim, ids, dists, factors, row, degree, alpha);
     pad_from(row, count);
     count
 }
 
 // Part 5 whole: from a pool of ids, each once, with their distances from the node, to the node's row.
 pub fn prune_neighbors(
-    g: Gauge,
     vectors: &[u8],
+    dim: usize,
     ids: &[u32],
     dists: &[u32],
     node: u32,
@@ -204,18 +204,18 @@ pub fn prune_neighbors(
     degree: usize,
     alpha: f32,
 ) -> usize
-    requires measurable { Measurable (space g vectors.now) ids.now dists.now }
+    requires measurable { Measurable dim vectors.now ids.now dists.now }
     requires distinct { Distinct ids.now }
     requires in_bounds { (750 ≤ length factors.old) × (degree ≤ length row.old) }
     ensures { Written row.new result (length row.old)
-        (prune (between (space g vectors.now)) degree alpha node (items_of ids.now dists.now)) }
+        (prune (between dim vectors.now) degree alpha node (items_of ids.now dists.now)) }
 {
     let mut ci = [0u32; 750];
     let mut cd = [0u32; 750];
     let count = choose(ids, dists, node, &mut ci, &mut cd);
     write_pruned(
-        g,
         vectors,
+        dim,
         &ci[0..count],
         &cd[0..count],
         &mut factors[0..count],
@@ -230,8 +230,8 @@ pub fn prune_into(
     table: &mut [u32],
     place: usize,
     width: usize,
-    g: Gauge,
     vectors: &[u8],
+    dim: usize,
     ids: &[u32],
     dists: &[u32],
     node: u32,
@@ -239,17 +239,17 @@ pub fn prune_into(
     degree: usize,
     alpha: f32,
 ) -> usize
-    requires measurable { Measurable (space g vectors.now) ids.now dists.now }
+    requires measurable { Measurable dim vectors.now ids.now dists.now }
     requires distinct { Distinct ids.now }
     requires in_bounds { (750 ≤ length factors.old) × (degree ≤ width) × (place * width + width ≤ length table.old) }
     ensures { Stretched table.old table.new place width result
-        (prune (between (space g vectors.now)) degree alpha node (items_of ids.now dists.now)) }
+        (prune (between dim vectors.now) degree alpha node (items_of ids.now dists.now)) }
 {
     let at = place * width;
     let end = at + width;
     prune_neighbors(
-        g,
         vectors,
+        dim,
         ids,
         dists,
         node,

@@ -11,7 +11,7 @@ use Rattle.definition.specs.Slack.{slack}
 use Rattle.definition.specs.Batch.{Setting, fitted, pruneIds}
 use Rattle.definition.specs.Outcome.{setting_of}
 use Rattle.laws.specs.Words.{Below}
-use Rattle.given.specs.Given.{Given, space_of, setting, Limits}
+use Rattle.given.specs.Given.{Given, setting, Limits}
 use Rattle.metric.specs.Exact.{VectorIn, Distances}
 use Rattle.metric.specs.Laws.{distances-small, vector-in}
 use Rattle.laws.specs.All.{all_of}
@@ -47,13 +47,13 @@ module _ (g : Given) (node width : ℕ) (ids table₀ table : List ℕ) {p r : �
             (ap (λ (b : Bool). cond b ids (pruneIds (setting g) node ids)) (sym (le-leb (length ids) width h))) s;
       }
 
-  pub fits-long : {dists : List ℕ} → width < length ids → Distances (between (space_of g) p) ids dists
-      → Stretched table₀ table p width r (prune (between (space_of g)) g.params.degree g.params.alpha node (items_of ids dists))
+  pub fits-long : {dists : List ℕ} → width < length ids → Distances (between g.dim g.vectors p) ids dists
+      → Stretched table₀ table p width r (prune (between g.dim g.vectors) g.params.degree g.params.alpha node (items_of ids dists))
       → Fitted g node width ids table₀ table
   unfolding fittedTo pruneIds setting_of
   fits-long h d s =
-      let far = between (space_of g) in
-      let items : items_of ids _ ≡ measured (between (space_of g) node) ids =
+      let far = between g.dim g.vectors in
+      let items : items_of ids _ ≡ measured (between g.dim g.vectors node) ids =
       ap (items_of ids) d.are ∙ items-measured (far p) ids ∙ ap (λ (k : ℕ). measured (far k) ids) q in
       record {
         row =
@@ -83,21 +83,21 @@ fitted-few g width i xs h = go (leb (length xs) width) refl
     go false e = let p = pruned-few g i xs in omega arith
 
 module _ {g : Given} {node width : ℕ} {ids : List ℕ} (f : Fittable g node width ids) where
-  reaches : (i : ℕ) → i < g.n → VectorIn (space_of g) i
-  reaches i h = vector-in (space_of g) i f.limits.vectors-are h
+  reaches : (i : ℕ) → i < g.n → VectorIn g.dim g.vectors i
+  reaches i h = vector-in g.dim g.vectors g.n i f.limits.vectors-are h
 
-  pub node-reaches : {p : ℕ} → p ≡ node → VectorIn (space_of g) p
-  node-reaches e = subst (VectorIn (space_of g)) (sym e) (reaches node f.node_in)
+  pub node-reaches : {p : ℕ} → p ≡ node → VectorIn g.dim g.vectors p
+  node-reaches e = subst (VectorIn g.dim g.vectors) (sym e) (reaches node f.node_in)
 
-  pub ids-reach : (k : ℕ) → k < length ids → VectorIn (space_of g) (get_or ids k 0)
+  pub ids-reach : (k : ℕ) → k < length ids → VectorIn g.dim g.vectors (get_or ids k 0)
   ids-reach k h = reaches (get_or ids k 0) (f.ids-in k h)
 
-  pub as-measurable : (p : ℕ) {dists : List ℕ} → length dists ≡ length ids → Distances (between (space_of g) p) ids dists
-      → Measurable (space_of g) ids dists
+  pub as-measurable : (p : ℕ) {dists : List ℕ} → length dists ≡ length ids → Distances (between g.dim g.vectors p) ids dists
+      → Measurable g.dim g.vectors ids dists
   as-measurable p e d =
       record {
         same = sym e;
         narrow = f.limits.dim-few;
-        rows = all_of (VectorIn (space_of g)) 0 ids ids-reach;
-        small = distances-small (between (space_of g) p) ids _ d;
+        rows = all_of (VectorIn g.dim g.vectors) 0 ids ids-reach;
+        small = distances-small (between g.dim g.vectors p) ids _ d;
       }

@@ -1,24 +1,23 @@
 // Part 6, the last step of the merge: the ids of a node become its row.
 ghost use Rattle.std.specs.Prelude.{◌≡◌, ℕ, ◌+◌, ◌*◌, ◌≤◌, ◌<◌, length, get_or};
 ghost use Rattle.definition.specs.Metric.{between};
-ghost use Rattle.metric.specs.Exact.{space, VectorIn, Distances};
+ghost use Rattle.metric.specs.Exact.{VectorIn, Distances};
 ghost use Rattle.scratch.specs.Layout.{mostFactors};
 ghost use Rattle.given.specs.Given.{given};
 ghost use Rattle.prune_fit.specs.Fits.{Fittable, Fitted};
 
 use given::Ground;
-use metric::Gauge;
 
 // The distance of each id from the node, whose vector is lent once for all.
-fn measure(g: Gauge, vectors: &[u8], node: usize, ids: &[u32], dists: &mut [u32])
-    requires dim_bound { (g.dim ≤ 256) × (length ids.now ≡ length dists.old) }
-    requires vector_in { VectorIn (space g vectors.now) node }
-    requires by_index { (k : ℕ) → k < length ids.now → VectorIn (space g vectors.now) (get_or ids.now k 0) }
-    ensures { Distances (between (space g vectors.now) node) ids.now dists.new }
+fn measure(vectors: &[u8], dim: usize, node: usize, ids: &[u32], dists: &mut [u32])
+    requires dim_bound { (dim ≤ 256) × (length ids.now ≡ length dists.old) }
+    requires vector_in { VectorIn dim vectors.now node }
+    requires by_index { (k : ℕ) → k < length ids.now → VectorIn dim vectors.now (get_or ids.now k 0) }
+    ensures { Distances (between dim vectors.now node) ids.now dists.new }
 {
-    let at = node * g.dim;
-    let end = at + g.dim;
-    metric::from_query_each(g, vectors, &vectors[at..end], ids, dists);
+    let at = node * dim;
+    let end = at + dim;
+    metric::from_query_each(dim, vectors, &vectors[at..end], ids, dists);
 }
 
 // The ids of a node become its row of a table of `width` words a row: as they are if there are at most so many, otherwise pruned.
@@ -42,18 +41,13 @@ pub fn fit_row(
         table::put_row(table, place, width, ids);
         return;
     }
-    let gauge = Gauge {
-        n: g.n,
-        dim: g.dim,
-        metric: g.params.metric,
-    };
-    measure(gauge, vectors, place, ids, dists);
+    measure(vectors, g.dim, place, ids, dists);
     prune::prune_into(
         table,
         place,
         width,
-        gauge,
         vectors,
+        g.dim,
         ids,
         dists,
         node,

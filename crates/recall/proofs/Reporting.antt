@@ -49,7 +49,7 @@ meets c o q =
 -- r is the number of the report c
 abbrev Numbered : ReportCall → ℕ → Type 0
 Numbered c r =
-    ReportNumbered c.n c.dim c.vectors c.metric c.degree c.beam c.k c.start c.table
+    ReportNumbered c.n c.dim c.vectors c.degree c.beam c.k c.start c.table
     (length c.queries) (length c.words) (length c.floats) r
 
 module _ (c : ReportCall) (r : ℕ) (m : Numbered c r) where

@@ -12,7 +12,7 @@ use Rattle.definition.specs.Metric.{vector, fromQuery}
 use Rattle.definition.specs.Tables.{row}
 use Rattle.definition.specs.Recall.{hits, count_of}
 use Rattle.definition.specs.Refusals.{ReportCall}
-use Rattle.definition.specs.Outcome.{reportSpace, queryCount, askedEach, hitsAt}
+use Rattle.definition.specs.Outcome.{queryCount, askedEach, hitsAt}
 use Rattle.laws.specs.Parts.{part, part_length, within-trans, within_none}
 use Rattle.laws.specs.Tables.{row_fits}
 use Rattle.laws.specs.Sums.{total-upto}
@@ -100,7 +100,7 @@ module _ {c : ReportCall} (accepted : QueriesAccepted c) {count : ℕ} (count-is
       unfolding hitsAt
       hits-are =
           b.hits-are
-          ∙ ap (λ (l : List ℕ). hits (fromQuery (reportSpace c) l) (row c.degree c.table) c.n c.beam c.start c.k) query-is
+          ∙ ap (λ (l : List ℕ). hits (fromQuery c.dim c.vectors l) (row c.degree c.table) c.n c.beam c.start c.k) query-is
 
       -- w is how many queries were whole before it, and one more where it is
       pub go_on : {w : ℕ} → ((r.hits ≡ each) × (w ≡ whole + 1)) ⊎ ((r.hits ≡ each → ⊥) × (w ≡ whole))

@@ -7,7 +7,7 @@ use Rattle.definition.specs.Metric.{fromQuery}
 use Rattle.definition.specs.Tables.{row}
 use Rattle.definition.specs.Recall.{hits, count_of}
 use Rattle.definition.specs.Refusals.{SearchCall, ExhaustiveCall, ReportCall}
-use Rattle.definition.specs.Outcome.{ReportOut, reportSpace, askedEach, hitsAt}
+use Rattle.definition.specs.Outcome.{ReportOut, askedEach, hitsAt}
 use Rattle.laws.specs.Parts.{Within}
 use Rattle.accepted.specs.Search.{SearchAccepted}
 use Rattle.accepted.specs.Recall.{ExhaustiveAccepted, ReportAccepted, searchOf, exhaustiveOf}
@@ -23,7 +23,6 @@ call_of a vectors table queries words floats =
       n = a.n;
       dim = a.dim;
       vectors = vectors;
-      metric = a.metric;
       degree = a.degree;
       beam = a.beam;
       k = a.k;
@@ -41,7 +40,6 @@ lending c queries words floats =
       n = c.n;
       dim = c.dim;
       vectors = c.vectors;
-      metric = c.metric;
       degree = c.degree;
       beam = c.beam;
       k = c.k;
@@ -63,7 +61,7 @@ abbrev pub exhaustiveBy : ReportCall → List ℕ → List Float → ExhaustiveC
 exhaustiveBy c ids dists = exhaustiveOf c c.queries ids dists
 
 abbrev pub hitsOf : ReportCall → ℕ
-hitsOf c = hits (fromQuery (reportSpace c) c.queries) (row c.degree c.table) c.n c.beam c.start c.k
+hitsOf c = hits (fromQuery c.dim c.vectors c.queries) (row c.degree c.table) c.n c.beam c.start c.k
 
 pub record QueryAccepted (c : ReportCall) (ids : List ℕ) (dists : List Float) (near : List ℕ) (apart : List Float) : Type 0 where
   pub floats : List Float

@@ -13,13 +13,11 @@ ghost use Rattle.recall.specs.Asking.{call_of, out_of, QueryAccepted, QueriesAcc
 
 use definition::Report;
 
-// What a report asks of each query: the k nearest of n entries of dim bytes by the metric of that number, by a search that begins at `start`, on a table of
-// rows of `degree` words.
+// What a report asks of each query: the k nearest of n entries of dim bytes, by a search that begins at `start`, on a table of rows of `degree` words.
 #[derive(Drop)]
 struct Asked {
     n: usize,
     dim: usize,
-    metric: u32,
     degree: usize,
     beam: usize,
     k: usize,
@@ -116,12 +114,9 @@ fn one_query(
 {
     let n = a.n;
     let found = search::walk_answers(
-        n, a.dim, vectors, a.metric, a.degree, a.beam, a.k, a.start, table, query, epoch, words,
-        ids, dists,
+        n, a.dim, vectors, a.degree, a.beam, a.k, a.start, table, query, epoch, words, ids, dists,
     );
-    let nearest = exhaustive::exhaustive_accepted(
-        n, a.dim, vectors, a.metric, a.k, query, near, apart,
-    );
+    let nearest = exhaustive::exhaustive_accepted(n, a.dim, vectors, a.k, query, near, apart);
     let next = marks::next_epoch(found.epoch);
     let hits = in_both(
         &mut words[0..n],
@@ -207,7 +202,6 @@ pub fn report(
     n: usize,
     dim: usize,
     vectors: &[u8],
-    metric: u32,
     degree: usize,
     beam: usize,
     k: usize,
@@ -222,7 +216,6 @@ pub fn report(
           n = n;
           dim = dim;
           vectors = vectors.now;
-          metric = metric;
           degree = degree;
           beam = beam;
           k = k;
@@ -238,7 +231,6 @@ pub fn report(
         n,
         dim,
         vectors,
-        metric,
         degree,
         beam,
         k,
@@ -254,7 +246,6 @@ pub fn report(
     let a = Asked {
         n,
         dim,
-        metric,
         degree,
         beam,
         k,

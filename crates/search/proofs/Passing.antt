@@ -10,7 +10,7 @@ use Rattle.definition.specs.Metric.{fromQuery}
 use Rattle.definition.specs.Tables.{cleaned}
 use Rattle.definition.specs.Greedy.{State}
 use Rattle.definition.specs.Search.{ranked}
-use Rattle.definition.specs.Outcome.{searchSpace, searchAnswer, found, walked, foundIds, foundDists, searchDone}
+use Rattle.definition.specs.Outcome.{searchAnswer, found, walked, foundIds, foundDists, searchDone}
 use Rattle.definition.specs.Refusals.{SearchCall, searchWords, mostAnswers}
 use Rattle.laws.specs.Parts.{Within, within_wider}
 use Rattle.laws.specs.Filled.{cleared-same}
@@ -33,7 +33,7 @@ use Rattle.search.specs.Statement.{out_of, answer_of, Searched}
 
 -- the plan of the walk, whose beam is b
 abbrev pub plan_of : SearchCall → ℕ → Plan
-plan_of c b = record { n = c.n; dim = c.dim; metric = c.metric; width = c.degree; beam = b; keep = false }
+plan_of c b = record { n = c.n; dim = c.dim; width = c.degree; beam = b; keep = false }
 
 -- ---- one walk
 module _ (c : SearchCall) (a : Walkable c) (table : List ℕ) (table_is : c.table ≡ cleaned c.n table) where
@@ -52,10 +52,10 @@ module _ (c : SearchCall) (a : Walkable c) (table : List ℕ) (table_is : c.tabl
     -- it may begin
     pub start-room : Room (plan_of c b) epoch c.words
     unfolding walkEnd
-    start-room = record { roomy = record { nodes = a.nodes; room = a.word_room; beam-le = omega (arith, a.beam-few) }; marks = marks }
+    start-room = record { space = record { nodes = a.nodes; room = a.word_room; beam-le = omega (arith, a.beam-few) }; marks = marks }
 
     module _ (after keys : List ℕ) (r : Walked)
-        (walks : Walks (plan_of c b) epoch c.words after keys r (walk_of (plan_of c b) (fromQuery (searchSpace c) c.query) table c.start))
+        (walks : Walks (plan_of c b) epoch c.words after keys r (walk_of (plan_of c b) (fromQuery c.dim c.vectors c.query) table c.start))
         (count : ℕ) (count-is : count ≡ min c.k r.work) where
       few : count ≤ mostAnswers c.beam c.k
       unfolding mostAnswers
@@ -70,7 +70,7 @@ module _ (c : SearchCall) (a : Walkable c) (table : List ℕ) (table_is : c.tabl
       )
 
       -- the state that it comes to is the definition's
-      state-is : walk_of (plan_of c b) (fromQuery (searchSpace c) c.query) table c.start ≡ state_of c
+      state-is : walk_of (plan_of c b) (fromQuery c.dim c.vectors c.query) table c.start ≡ state_of c
       state-is = rw (b-is, ← table_is) refl
 
       told : Tells keys r.work (state_of c).work

@@ -12,7 +12,7 @@ use Rattle.definition.specs.Greedy.{State, greedy}
 use Rattle.definition.specs.Floats.{nought}
 use Rattle.definition.specs.Search.{listedFirst, ranked, searched, answers}
 use Rattle.definition.specs.Refusals.{SearchCall, searchWords, searchFloats, mostAnswers}
-use Rattle.definition.specs.Outcome.{searchSpace, found, walked, foundIds, foundDists}
+use Rattle.definition.specs.Outcome.{found, walked, foundIds, foundDists}
 use Rattle.laws.specs.Backwards.{take-least}
 use Rattle.laws.specs.Parts.{Within}
 use Rattle.laws.specs.Sorting.{length-sort}
@@ -52,7 +52,6 @@ onWords c words =
       n = c.n;
       dim = c.dim;
       vectors = c.vectors;
-      metric = c.metric;
       degree = c.degree;
       beam = c.beam;
       k = c.k;
@@ -96,7 +95,7 @@ pub record Answered (c : SearchCall) (epoch : ℕ) (after : List ℕ) (outs : Pa
 -- ---- the answers, from what the keys tell of the work
 -- the state that the walk comes to
 abbrev pub state_of : SearchCall → State
-state_of c = greedy (fromQuery (searchSpace c) c.query) (row c.degree c.table) c.n (max c.beam 1) c.start
+state_of c = greedy (fromQuery c.dim c.vectors c.query) (row c.degree c.table) c.n (max c.beam 1) c.start
 
 pub walked-is : (c : SearchCall) → walked c ≡ state_of c
 unfolding walked searched

@@ -29,7 +29,7 @@ searched-same {c} {words = words} {floats} {ids} {dists} e s = subst (λ (b : An
 -- r is the number of the search c with a run of `run` records beside its two outputs
 abbrev pub NumberedBeside : SearchCall → ℕ → ℕ → Type 0
 NumberedBeside c run r =
-    SearchNumbered c.n c.dim c.vectors c.metric c.degree c.beam c.k c.start c.table c.query
+    SearchNumbered c.n c.dim c.vectors c.degree c.beam c.k c.start c.table c.query
     (length c.words) (length c.floats) (length c.ids) (length c.dists) run r
 
 -- number 0: it may be made, and its answers fit in the run
@@ -65,8 +65,7 @@ module _ (c : SearchCall) (a : Accepted c) where
 module _ (c : SearchCall) (r : ℕ) (m : NumberedBeside c c.k r) where
   number_is : r ≡ searchNumber c
   number_is =
-      plain c.n c.dim c.vectors c.metric c.degree c.beam c.k c.start c.table c.query
-      c.words c.floats c.ids c.dists r m
+      plain c.n c.dim c.vectors c.degree c.beam c.k c.start c.table c.query c.words c.floats c.ids c.dists r m
 
   pub search-refused : (r ≡ 0 → ⊥) → (a : Answer) → a ≡ refused r → SearchMeets c (out_of a c.words c.floats c.ids c.dists)
   unfolding searchOut searchKept

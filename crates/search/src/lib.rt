@@ -41,7 +41,6 @@ pub fn walk_answers(
     n: usize,
     dim: usize,
     vectors: &[u8],
-    metric: u32,
     degree: usize,
     beam: usize,
     k: usize,
@@ -53,11 +52,10 @@ pub fn walk_answers(
     ids: &mut [u32],
     dists: &mut [f32],
 ) -> Found
-    requires walkable { Walkable (cleanedCall
-        (call_of n dim vectors.now metric degree beam k start table.now query.now words.old [] ids.old dists.old)) }
+    requires walkable { Walkable (cleanedCall (call_of n dim vectors.now degree beam k start table.now query.now words.old [] ids.old dists.old)) }
     requires epoch_bound { (epoch + 1 < epochEnd) × Marks n words.old epoch }
     ensures { Answered
-        (cleanedCall (call_of n dim vectors.now metric degree beam k start table.now query.now
+        (cleanedCall (call_of n dim vectors.now degree beam k start table.now query.now
         words.old [] ids.old dists.old))
         epoch words.new (pairs ids.new dists.new) result }
 {
@@ -68,7 +66,6 @@ pub fn walk_answers(
         dim,
         width: degree,
         beam: most,
-        metric,
         keep: false,
     };
     let walked = greedy::greedy(words, &mut keys, vectors, query, table, p, epoch, start);
@@ -97,7 +94,6 @@ pub fn lookup_accepted(
     n: usize,
     dim: usize,
     vectors: &[u8],
-    metric: u32,
     degree: usize,
     beam: usize,
     k: usize,
@@ -110,15 +106,15 @@ pub fn lookup_accepted(
     dists: &mut [f32],
 ) -> Found
     requires { Accepted (cleanedCall
-        (call_of n dim vectors.now metric degree beam k start table.now query.now words.old floats.old ids.old dists.old)) }
+        (call_of n dim vectors.now degree beam k start table.now query.now words.old floats.old ids.old dists.old)) }
     ensures { Searched
-        (cleanedCall (call_of n dim vectors.now metric degree beam k start table.now query.now
+        (cleanedCall (call_of n dim vectors.now degree beam k start table.now query.now
         words.old floats.old ids.old dists.old))
         (out_of (answer_of result) words.new floats.new ids.new dists.new) }
 {
     let epoch = marks::first_epoch(words, n);
     let found = walk_answers(
-        n, dim, vectors, metric, degree, beam, k, start, table, query, epoch, words, ids, dists,
+        n, dim, vectors, degree, beam, k, start, table, query, epoch, words, ids, dists,
     );
     wipe(words, floats, n);
     found
@@ -129,7 +125,6 @@ pub fn search_accepted(
     n: usize,
     dim: usize,
     vectors: &[u8],
-    metric: u32,
     degree: usize,
     beam: usize,
     k: usize,
@@ -141,14 +136,14 @@ pub fn search_accepted(
     ids: &mut [u32],
     dists: &mut [f32],
 ) -> Answer
-    requires { Accepted (call_of n dim vectors.now metric degree beam k start table.now query.now words.old floats.old ids.old dists.old) }
+    requires { Accepted (call_of n dim vectors.now degree beam k start table.now query.now words.old floats.old ids.old dists.old) }
     ensures { Searched
-        (call_of n dim vectors.now metric degree beam k start table.now query.now
+        (call_of n dim vectors.now degree beam k start table.now query.now
         words.old floats.old ids.old dists.old)
         (out_of result words.new floats.new ids.new dists.new) }
 {
     let found = lookup_accepted(
-        n, dim, vectors, metric, degree, beam, k, start, table, query, words, floats, ids, dists,
+        n, dim, vectors, degree, beam, k, start, table, query, words, floats, ids, dists,
     );
     answers::searched(found.count, found.expanded, found.measured)
 }
@@ -159,7 +154,6 @@ pub fn search(
     n: usize,
     dim: usize,
     vectors: &[u8],
-    metric: u32,
     degree: usize,
     beam: usize,
     k: usize,
@@ -176,7 +170,6 @@ pub fn search(
           n = n;
           dim = dim;
           vectors = vectors.now;
-          metric = metric;
           degree = degree;
           beam = beam;
           k = k;
@@ -194,7 +187,6 @@ pub fn search(
         n,
         dim,
         vectors,
-        metric,
         degree,
         beam,
         k,
@@ -211,7 +203,7 @@ pub fn search(
         return answers::refused(number);
     }
     search_accepted(
-        n, dim, vectors, metric, degree, beam, k, start, table, query, words, floats, ids, dists,
+        n, dim, vectors, degree, beam, k, start, table, query, words, floats, ids, dists,
     )
 }
 
@@ -221,7 +213,6 @@ pub fn lookup(
     n: usize,
     dim: usize,
     vectors: &[u8],
-    metric: u32,
     degree: usize,
     beam: usize,
     k: usize,
@@ -238,7 +229,6 @@ pub fn lookup(
           n = n;
           dim = dim;
           vectors = vectors.now;
-          metric = metric;
           degree = degree;
           beam = beam;
           k = k;
@@ -256,7 +246,6 @@ pub fn lookup(
         n,
         dim,
         vectors,
-        metric,
         degree,
         beam,
         k,
@@ -272,7 +261,7 @@ pub fn lookup(
         return answers::refused(refusal);
     }
     let found = lookup_accepted(
-        n, dim, vectors, metric, degree, beam, k, start, table, query, words, floats, ids, dists,
+        n, dim, vectors, degree, beam, k, start, table, query, words, floats, ids, dists,
     );
     answers::searched(found.count, found.expanded, found.measured)
 }

@@ -52,8 +52,7 @@ module _ (c : SearchCall) (rs : List Candidate) where
   module _ (r : ℕ) (m : NumberedBeside c (length rs) r) where
     number_is : r ≡ recordsNumber c rs
     number_is =
-        with-records c.n c.dim c.vectors c.metric c.degree c.beam c.k c.start c.table c.query
-        c.words c.floats c.ids c.dists r rs m
+        with-records c.n c.dim c.vectors c.degree c.beam c.k c.start c.table c.query c.words c.floats c.ids c.dists r rs m
 
     -- a refusal: everything is as it was
     pub records-refused : (r ≡ 0 → ⊥) → (a : Answer) → a ≡ refused r → RecordsMeets c rs (record { plain = out_of a c.words c.floats c.ids c.dists; records = rs })

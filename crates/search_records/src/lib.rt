@@ -28,7 +28,6 @@ pub fn search_records(
     n: usize,
     dim: usize,
     vectors: &[u8],
-    metric: u32,
     degree: usize,
     beam: usize,
     k: usize,
@@ -42,22 +41,7 @@ pub fn search_records(
     records: &mut [Candidate],
 ) -> Answer
     ensures { RecordsMeets
-        (record {
-          n = n;
-          dim = dim;
-          vectors = vectors.now;
-          metric = metric;
-          degree = degree;
-          beam = beam;
-          k = k;
-          start = start;
-          table = table.now;
-          query = query.now;
-          words = words.old;
-          floats = floats.old;
-          ids = ids.old;
-          dists = dists.old;
-        })
+        (record { n = n; dim = dim; vectors = vectors.now; degree = degree; beam = beam; k = k; start = start; table = table.now; query = query.now; words = words.old; floats = floats.old; ids = ids.old; dists = dists.old })
         records.old
         (record { plain = record { answer = result; words = words.new; floats = floats.new; ids = ids.new; dists = dists.new }; records = records.new }) }
 {
@@ -65,7 +49,6 @@ pub fn search_records(
         n,
         dim,
         vectors,
-        metric,
         degree,
         beam,
         k,
@@ -82,7 +65,7 @@ pub fn search_records(
         return answers::refused(number);
     }
     let a = search::search_accepted(
-        n, dim, vectors, metric, degree, beam, k, start, table, query, words, floats, ids, dists,
+        n, dim, vectors, degree, beam, k, start, table, query, words, floats, ids, dists,
     );
     let count = a.count;
     copy_run(records, ids, dists, count);

@@ -75,7 +75,7 @@ module _ {vs vectors query words : List ℕ} {floats : List Float} {ids : List �
   module _ {n dim degree beam k rows at end : ℕ} (p : n ≡ theN vs) (q : dim ≡ theDim vs) (r : degree ≡ theDegree vs) (s : beam ≡ get_or vs 4 0)
       (t : k ≡ get_or vs 5 0) (places : PlacesOf vs rows at end) where
     abbrev made : SearchCall
-    made = call_of n dim (part 0 (rows - 6) vectors) 0 degree beam k (get_or vs 3 0) (part rows at vs) (part 0 dim query) words floats ids dists
+    made = call_of n dim (part 0 (rows - 6) vectors) degree beam k (get_or vs 3 0) (part rows at vs) (part 0 dim query) words floats ids dists
 
     made-is : made ≡ call
     unfolding theRows part_at

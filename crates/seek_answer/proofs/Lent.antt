@@ -18,16 +18,16 @@ use Rattle.seek_text.specs.Text.{Limits}
 use Rattle.seek_answer.specs.Answering.{Room}
 
 -- the tests of a search in their order: those before the room, the room, and the query's
-abbrev numbered : (a b g h m e f t : Bool) → ℕ → ℕ
-numbered a b g h m e f t x = 1 when a else 2 when b else 3 when g else 4 when h else 18 when m else 6 when e else 8 when f else 10 when t else x
+abbrev numbered : (a b g h e f t : Bool) → ℕ → ℕ
+numbered a b g h e f t x = 1 when a else 2 when b else 3 when g else 4 when h else 6 when e else 8 when f else 10 when t else x
 
-chain : (a b g h m e f t u : Bool) (x : ℕ) → (a ≡ false → h ≡ false → t ≡ u) → numbered a b g h m e f t x ≡ numbered a b g h m e f u x
+chain : (a b g h e f t u : Bool) (x : ℕ) → (a ≡ false → h ≡ false → t ≡ u) → numbered a b g h e f t x ≡ numbered a b g h e f u x
 unfolding ◌when◌else◌
-chain true b g h m e f t u x q = refl
-chain false true g h m e f t u x q = refl
-chain false false true h m e f t u x q = refl
-chain false false false true m e f t u x q = refl
-chain false false false false m e f t u x q = rw (q refl refl) refl
+chain true b g h e f t u x q = refl
+chain false true g h e f t u x q = refl
+chain false false true h e f t u x q = refl
+chain false false false true e f t u x q = refl
+chain false false false false e f t u x q = rw (q refl refl) refl
 
 short_none : {A : Type 0} (room : ℕ) (l : List A) → room ≤ length l → short room l ≡ false
 unfolding short
@@ -48,7 +48,6 @@ lentCall vs words floats ids dists =
       n = theN vs;
       dim = theDim vs;
       vectors = theVectors vs;
-      metric = 0;
       degree = theDegree vs;
       beam = get_or vs 4 0;
       k = get_or vs 5 0;
@@ -80,7 +79,7 @@ module _ {vs vectors query words : List ℕ} {floats : List Float} {ids : List �
 
   pub number_same : searchNumber call ≡ searchNumber (seekCall vs)
   unfolding searchNumber searchNumberAt seekCall
-  number_same = chain _ _ _ _ _ _ _ (searchShort call) (searchShort (seekCall vs)) _ (λ a h. lent_none a h ∙ sym (seek-room vs))
+  number_same = chain _ _ _ _ _ _ (searchShort call) (searchShort (seekCall vs)) _ (λ a h. lent_none a h ∙ sym (seek-room vs))
 
 pub found-same : (vs words : List ℕ) (floats : List Float) (ids : List ℕ) (dists : List Float)
     → found (lentCall vs words floats ids dists) ≡ found (seekCall vs)

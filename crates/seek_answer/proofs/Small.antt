@@ -9,8 +9,8 @@ use lib.ListN.{get_or}
 use Rattle.definition.specs.Metric.{fromQuery}
 use Rattle.definition.specs.Tables.{row}
 use Rattle.definition.specs.Refusals.{searchNumber}
-use Rattle.definition.specs.Outcome.{searchSpace, found}
-use Rattle.definition.specs.Seek.{wellFormed, theN, theDegree, theRows, theQuery}
+use Rattle.definition.specs.Outcome.{found}
+use Rattle.definition.specs.Seek.{wellFormed, theN, theDim, theDegree, theVectors, theRows, theQuery}
 use Rattle.theory.specs.Metric.{query-small}
 use Rattle.theory.specs.seek.Samples.{text-bytes}
 use Rattle.accepted.specs.Search.{search-accepted}
@@ -24,8 +24,7 @@ pub small-found : (vs words : List ℕ) (floats : List Float) (ids : List ℕ) (
 unfolding found
 small-found vs words floats ids dists w z =
     let bytes = text-bytes vs w in
-    let c = lentCall vs words floats ids dists in
-    let a = search-accepted c z in
-    all-answers Small (fromQuery (searchSpace c) (theQuery vs))
-    (λ i. omega (arith, query-small (searchSpace c) (theQuery vs) (omega (arith, a.dim-few, a.query-is)) bytes.0 bytes.1 i))
+    let a = search-accepted (lentCall vs words floats ids dists) z in
+    all-answers Small (fromQuery (theDim vs) (theVectors vs) (theQuery vs))
+    (λ i. omega (arith, query-small (theDim vs) (theVectors vs) (theQuery vs) (omega (arith, a.dim-few, a.query-is)) bytes.0 bytes.1 i))
     (row (theDegree vs) (theRows vs)) (theN vs) (get_or vs 4 0) (get_or vs 3 0) (get_or vs 5 0)

@@ -7,13 +7,13 @@ use laws::least;
 fn call_distance(c: Case, vectors: &[u8], query: &[u8]) -> Answer {
     let vl = least(c.vectors, vectors.len());
     let ql = least(c.query, query.len());
-    metric::distance(&vectors[0..vl], &query[0..ql], c.params.metric)
+    metric::distance(&vectors[0..vl], &query[0..ql])
 }
 
 fn call_medoid(c: Case, vectors: &[u8], pivots: &[u32]) -> Answer {
     let vl = least(c.vectors, vectors.len());
     let pl = least(c.list, pivots.len());
-    medoid::medoid(c.n, c.dim, &vectors[0..vl], c.params.metric, &pivots[0..pl])
+    medoid::medoid(c.n, c.dim, &vectors[0..vl], &pivots[0..pl])
 }
 
 fn call_search(
@@ -37,7 +37,6 @@ fn call_search(
         c.n,
         c.dim,
         &vectors[0..vl],
-        c.params.metric,
         c.params.degree,
         c.params.beam,
         c.k,

@@ -1,8 +1,7 @@
 // Replays cases by the public calls that they name, and prints what each call leaves. The programs over it are a line each, with a list of cases as `stdin`:
 // test_replay one that oracle/replay.rs makes with 000's own answers, test_build one for people.
-// A list is words of text, as test_words reads them: the number of cases, and then the cases. A case is 21 numbers and the words of five lists. The numbers:
-//   kind, n, dim, degree, beam, alpha (see `named_alpha`), metric, extra seeds, start, k;
-//   the lengths of wide, closed, words, floats, ids and distances as lent;
+// A list is words of text, as test_words reads them: the number of cases, and then the cases. A case is 20 numbers and the words of five lists. The numbers:
+//   kind, n, dim, degree, beam, alpha (see `named_alpha`), extra seeds, start, k; the lengths of wide, closed, words, floats, ids and distances as lent;
 //   the lengths of the lists: the vectors; the query or second vector; the order, nodes or pivots; the seeds; the table that is read.
 // Kinds 0 to 6 are distance, medoid, search, build, batch, close and open, and print a line: the fields of the answer, and a sum over every word of what was
 // lent, the words beyond the lent part included. 7 and 8 are build and batch with every row of their tables printed; k is then the words of a wide row.

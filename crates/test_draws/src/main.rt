@@ -63,9 +63,9 @@ fn show_pivots(state: u64, n: usize) {
 }
 
 // Of the line: dim 1, vectors 10, 20, 30, 40.
-fn show_medoid(n: usize, dim: usize, metric: u32, pivots: &[u32]) {
+fn show_medoid(n: usize, dim: usize, pivots: &[u32]) {
     let line = [10u8, 20, 30, 40];
-    let a = medoid::medoid(n, dim, &line, metric, pivots);
+    let a = medoid::medoid(n, dim, &line, pivots);
     say(b"medoid number");
     say_word(a.number);
     say(b" id");
@@ -101,28 +101,17 @@ fn draws_refused() {
 }
 
 fn medoids() {
-    show_medoid(4, 1, 0, &[0, 3]);
-    show_medoid(2, 2, 0, &[1]);
-    show_medoid(4, 0, 0, &[0, 3]);
-    show_medoid(4, 2, 0, &[0, 3]);
-    show_medoid(4, 1, 0, &[]);
-    show_medoid(4, 1, 0, &[0, 4]);
-    show_medoid(4, 1, 0, &[0, 0, 0, 0, 0, 0, 0, 0, 0]);
-}
-
-// By metric 1 each score of the first is 30, so that id 0 has the least. 18 comes after 2 and before 12.
-fn medoids_absolute() {
-    show_medoid(4, 1, 1, &[0, 3]);
-    show_medoid(4, 1, 1, &[1, 3, 2]);
-    show_medoid(4, 1, 1, &[0, 4]);
-    show_medoid(4, 1, 2, &[0, 3]);
-    show_medoid(4, 2, 2, &[0, 3]);
-    show_medoid(4, 1, 4294967295, &[]);
+    show_medoid(4, 1, &[0, 3]);
+    show_medoid(2, 2, &[1]);
+    show_medoid(4, 0, &[0, 3]);
+    show_medoid(4, 2, &[0, 3]);
+    show_medoid(4, 1, &[]);
+    show_medoid(4, 1, &[0, 4]);
+    show_medoid(4, 1, &[0, 0, 0, 0, 0, 0, 0, 0, 0]);
 }
 
 fn main() {
     draws_accepted();
     draws_refused();
     medoids();
-    medoids_absolute();
 }

@@ -74,15 +74,7 @@ fn say_found(a: Answer, words: &[u32], ids: &[u32], dists: &[f32], stated: &[f32
 }
 
 // A search of four entries of one byte by two words each, from entry 0.
-fn show_search(
-    vectors: &[u8],
-    metric: u32,
-    table: &[u32],
-    query: u8,
-    beam: usize,
-    k: usize,
-    stated: &[f32],
-) {
+fn show_search(vectors: &[u8], table: &[u32], query: u8, beam: usize, k: usize, stated: &[f32]) {
     let asked = [query];
     let mut words = [7u32; 560];
     let mut floats = [7.0f32; 520];
@@ -92,7 +84,6 @@ fn show_search(
         4,
         1,
         vectors,
-        metric,
         2,
         beam,
         k,
@@ -108,15 +99,7 @@ fn show_search(
 }
 
 // The same as a lookup.
-fn show_lookup(
-    vectors: &[u8],
-    metric: u32,
-    table: &[u32],
-    query: u8,
-    beam: usize,
-    k: usize,
-    stated: &[f32],
-) {
+fn show_lookup(vectors: &[u8], table: &[u32], query: u8, beam: usize, k: usize, stated: &[f32]) {
     let asked = [query];
     let mut words = [7u32; 560];
     let mut floats = [7.0f32; 520];
@@ -126,7 +109,6 @@ fn show_lookup(
         4,
         1,
         vectors,
-        metric,
         2,
         beam,
         k,
@@ -148,61 +130,39 @@ fn show_fit(degree: usize, table: &[u32]) {
     say(b"\n");
 }
 
-// By metric 1 the line has the same order; an entry at 255 lies at 0 of every query. 18 comes after 4 and before 8.
-fn searches_absolute() {
-    let line = [10u8, 20, 30, 40];
-    let clipped = [10u8, 255, 30, 40];
-    let rows = [1u32, PADDING, 0, 2, 1, 3, 2, PADDING];
-    say(b"absolute, query 38 beam 2 k 2: ");
-    show_search(&line, 1, &rows, 38, 2, 2, &[2.0, 8.0]);
-    say(b"absolute, query 25 beam 4 k 4: ");
-    show_search(&line, 1, &rows, 25, 4, 4, &[5.0, 5.0, 15.0, 15.0]);
-    say(b"absolute, a sample of 255: ");
-    show_search(&clipped, 1, &rows, 38, 4, 4, &[0.0, 2.0, 8.0, 28.0]);
-    say(b"absolute lookup: ");
-    show_lookup(&line, 1, &rows, 38, 8, 8, &[2.0, 8.0, 18.0, 28.0]);
-    say(b"metric 2: ");
-    show_search(&line, 2, &rows, 38, 2, 2, &[0.0]);
-    say(b"metric 2, beam 257: ");
-    show_search(&line, 2, &rows, 38, 257, 2, &[0.0]);
-    say(b"metric 4294967295, a word too few: ");
-    show_lookup(&line, 4294967295, &rows[0..7], 38, 2, 2, &[0.0]);
-}
-
 fn main() {
     let line = [10u8, 20, 30, 40];
     let other = [10u8, 20, 30, 25];
     let rows = [1u32, PADDING, 0, 2, 1, 3, 2, PADDING];
     let stray = [4294967294u32, 1, 0, 2, 4, 3, 2, 5];
     say(b"query 38 beam 2 k 2: ");
-    show_search(&line, 0, &rows, 38, 2, 2, &[4.0, 64.0]);
+    show_search(&line, &rows, 38, 2, 2, &[4.0, 64.0]);
     say(b"query 38 beam 1 k 2: ");
-    show_search(&line, 0, &rows, 38, 1, 2, &[784.0]);
+    show_search(&line, &rows, 38, 1, 2, &[784.0]);
     say(b"query 38 beam 0 k 2: ");
-    show_search(&line, 0, &rows, 38, 0, 2, &[784.0]);
+    show_search(&line, &rows, 38, 0, 2, &[784.0]);
     say(b"query 38 beam 8 k 8: ");
-    show_search(&line, 0, &rows, 38, 8, 8, &[4.0, 64.0, 324.0, 784.0]);
+    show_search(&line, &rows, 38, 8, 8, &[4.0, 64.0, 324.0, 784.0]);
     say(b"query 25 beam 4 k 4: ");
-    show_search(&line, 0, &rows, 25, 4, 4, &[25.0, 25.0, 225.0, 225.0]);
+    show_search(&line, &rows, 25, 4, 4, &[25.0, 25.0, 225.0, 225.0]);
     say(b"missed entry: ");
-    show_search(&other, 0, &rows, 25, 2, 2, &[25.0, 25.0]);
+    show_search(&other, &rows, 25, 2, 2, &[25.0, 25.0]);
     say(b"query 38 beam 257 k 2: ");
-    show_search(&line, 0, &rows, 38, 257, 2, &[0.0]);
+    show_search(&line, &rows, 38, 257, 2, &[0.0]);
     say(b"query 38 beam 4 k 0: ");
-    show_search(&line, 0, &rows, 38, 4, 0, &[0.0]);
+    show_search(&line, &rows, 38, 4, 0, &[0.0]);
     say(b"lookup of the line: ");
-    show_lookup(&line, 0, &rows, 38, 2, 2, &[4.0, 64.0]);
+    show_lookup(&line, &rows, 38, 2, 2, &[4.0, 64.0]);
     say(b"lookup, stray words: ");
-    show_lookup(&line, 0, &stray, 38, 2, 2, &[4.0, 64.0]);
+    show_lookup(&line, &stray, 38, 2, 2, &[4.0, 64.0]);
     say(b"search, stray words: ");
-    show_search(&line, 0, &stray, 38, 2, 2, &[0.0]);
+    show_search(&line, &stray, 38, 2, 2, &[0.0]);
     say(b"lookup, a word too few: ");
-    show_lookup(&line, 0, &stray[0..7], 38, 2, 2, &[0.0]);
+    show_lookup(&line, &stray[0..7], 38, 2, 2, &[0.0]);
     say(b"fit of the line: ");
     show_fit(2, &rows);
     say(b"fit, stray words: ");
     show_fit(2, &stray);
     say(b"fit, degree 65: ");
     show_fit(65, &rows);
-    searches_absolute();
 }

@@ -1,21 +1,21 @@
 -- The medoid's score: "f32 distances to the pivots added in pivot order, rounding at each sum. Exact when dim is at most 32; otherwise within 21 of the exact
--- sum"; and by the absolute metric "always exact" (8/13). And the choice, "least score wins, lower id on equality", over any scores that compare as numbers do. (Bytes; at most 256 samples and 8 pivots.)
-use Prim.Native.Nat.{ℕ, zero, suc, ◌+◌, ◌*◌, ◌≤◌, ◌<◌, zero-le}
+-- sum." And the choice, "least score wins, lower id on equality", over any scores that compare as numbers do. (Bytes; at most 256 samples and 8 pivots.)
+use Prim.Native.Nat.{ℕ, zero, suc, ◌+◌, ◌*◌, ◌≤◌, ◌<◌}
 use Rattle.std.proofs.Math.Nat.{add-zero}
-use Rattle.std.proofs.Common.{mul-suc, arith, sym, ◌∙◌}
+use Rattle.std.proofs.Common.{arith, sym, ◌∙◌}
 use Rattle.std.specs.Prelude.{◌≡◌, refl, List, [], ◌∷◌, length, Float}
 use Rattle.std.proofs.Math.Path.{ap, subst}
 use borrow.Author.Tests.{ltb-true, ltb-false}
 use Rattle.std.proofs.Math.Dec.{ltb}
 use Rattle.std.specs.Float.Ieee.{lt}
-use Rattle.definition.specs.Metric.{whole, Space, between}
+use Rattle.definition.specs.Metric.{whole, between}
 use Rattle.definition.specs.Medoid.{score, Leader, challenge, leader, medoid}
 use Rattle.laws.specs.Truth.{branch}
 use Rattle.laws.specs.Below.{one_further}
 use Rattle.whole.specs.Whole.{limit}
 use Rattle.whole.specs.Sums.{Within}
 use Rattle.whole.specs.Eight.{exactScore, score-exact, score-within}
-use Rattle.theory.specs.Metric.{Bytes, between-most, between-absolute}
+use Rattle.theory.specs.Metric.{Bytes, between-most}
 
 -- m is the entry of the least number, the lower id on equality
 pub record Least (f : ℕ → ℕ) (n m : ℕ) : Type 0 where
@@ -25,32 +25,29 @@ pub record Least (f : ℕ → ℕ) (n m : ℕ) : Type 0 where
 
 -- ---- exact while the sum is at most 2^24
 
-sum-most : (pair : ℕ → ℕ → ℕ) (each i : ℕ) (ps : List ℕ) (k : ℕ) → ((j : ℕ) → pair i j ≤ each) → length ps ≤ k → exactScore pair ps i ≤ each * k
+sum-most : (pair : ℕ → ℕ → ℕ) (i : ℕ) (ps : List ℕ) (k : ℕ) → ((j : ℕ) → pair i j ≤ 65025 * 32) → length ps ≤ k → exactScore pair ps i ≤ 65025 * 32 * k
 unfolding exactScore
-sum-most pair each i [] k b h = zero-le
-sum-most pair each i (p ∷ ps) zero b h = absurd (omega arith)
-sum-most pair each i (p ∷ ps) (suc k) b h =
-    let a = b p in let c = sum-most pair each i ps k b (omega arith) in let d = mul-suc each k in omega arith
+sum-most pair i [] k b h = omega arith
+sum-most pair i (p ∷ ps) zero b h = absurd (omega arith)
+sum-most pair i (p ∷ ps) (suc k) b h = let a = b p in let c = sum-most pair i ps k b (omega arith) in omega arith
 
-module _ (s : Space) (bytes : Bytes s.vectors) (pivots : List ℕ) (few : length pivots ≤ 8) (i : ℕ) where
-  pub exactScore-most : s.dim ≤ 32 → exactScore (between s) pivots i ≤ limit
-  exactScore-most small =
-      let m = sum-most (between s) (65025 * 32) i pivots 8 (λ j. let b = between-most s bytes i j in omega arith) few in omega arith
+pub exactScore-most : (dim : ℕ) (vectors pivots : List ℕ) (i : ℕ) → dim ≤ 32 → length pivots ≤ 8 → Bytes vectors
+    → exactScore (between dim vectors) pivots i ≤ limit
+exactScore-most dim vectors pivots i small few bytes =
+    let m = sum-most (between dim vectors) i pivots 8 (λ j. let b = between-most dim vectors bytes i j in omega arith) few in
+    omega arith
 
-  pub medoid-exact : s.dim ≤ 32 → score (between s) pivots i ≡ whole (exactScore (between s) pivots i)
-  medoid-exact small = score-exact (between s) pivots i (exactScore-most small)
+pub medoid-exact : (dim : ℕ) (vectors pivots : List ℕ) (i : ℕ) → dim ≤ 32 → length pivots ≤ 8 → Bytes vectors
+    → score (between dim vectors) pivots i ≡ whole (exactScore (between dim vectors) pivots i)
+medoid-exact dim vectors pivots i small few bytes =
+    score-exact (between dim vectors) pivots i (exactScore-most dim vectors pivots i small few bytes)
 
-  -- by the absolute metric always: at most 522,240
-  pub exactScore-absolute : s.metric ≡ 1 → s.dim ≤ 256 → exactScore (between s) pivots i ≤ 522240
-  exactScore-absolute e small = let m = sum-most (between s) 65024 i pivots 8 (between-absolute s e small bytes i) few in omega arith
+-- ---- beyond: the score's own value is a whole number within 21
 
-  pub medoid-absolute : s.metric ≡ 1 → s.dim ≤ 256 → score (between s) pivots i ≡ whole (exactScore (between s) pivots i)
-  medoid-absolute e small = score-exact (between s) pivots i (let m = exactScore-absolute e small in omega arith)
-
-  -- ---- beyond: the score's own value is a whole number within 21
-
-  pub medoid-within : s.dim ≤ 256 → Within (exactScore (between s) pivots i) 21 (score (between s) pivots i)
-  medoid-within small = score-within (between s) pivots i (λ p. let b = between-most s bytes i p in omega arith) few
+pub medoid-within : (dim : ℕ) (vectors pivots : List ℕ) (i : ℕ) → dim ≤ 256 → length pivots ≤ 8 → Bytes vectors
+    → Within (exactScore (between dim vectors) pivots i) 21 (score (between dim vectors) pivots i)
+medoid-within dim vectors pivots i small few bytes =
+    score-within (between dim vectors) pivots i (λ p. let b = between-most dim vectors bytes i p in omega arith) few
 
 -- ---- the least wins: over any scores that compare as numbers do
 

@@ -3,7 +3,7 @@
 
 use fjalgrout::{
     batch, build, build_room, close, exhaustive, fit, lookup, most_answers, most_nearest, report, report_room, search, search_records, search_room, slack,
-    Candidate, Found, Metric, Params, Refusal, Report, Scratch, Table, Vectors, Wanted, PADDING,
+    Candidate, Found, Params, Refusal, Report, Scratch, Table, Vectors, Wanted, PADDING,
 };
 
 pub const LINE: [u8; 4] = [10, 20, 30, 40];
@@ -12,8 +12,8 @@ pub const LINE_WIDE: [u32; 12] = [1, PADDING, PADDING, 0, 2, PADDING, 1, 3, PADD
 pub const PATTERN: u32 = 0x5A5A_5A5A;
 const GUARDS: usize = 4;
 
-pub fn vectors(n: usize, dim: usize, bytes: &[u8], metric: Metric) -> Vectors<'_> {
-    Vectors { n, dim, bytes, metric }
+pub fn vectors(n: usize, dim: usize, bytes: &[u8]) -> Vectors<'_> {
+    Vectors { n, dim, bytes }
 }
 
 fn words(count: usize) -> Vec<u32> {
@@ -52,7 +52,6 @@ pub struct Search {
     pub n: usize,
     pub dim: usize,
     pub bytes: Vec<u8>,
-    pub metric: Metric,
     pub degree: usize,
     pub beam: usize,
     pub k: usize,
@@ -68,7 +67,6 @@ pub fn line_search(query: u8, beam: usize, k: usize) -> Search {
         n: 4,
         dim: 1,
         bytes: LINE.to_vec(),
-        metric: Metric::Squared,
         degree: 2,
         beam,
         k,
@@ -148,7 +146,7 @@ impl Search {
         };
         let wanted = Wanted { beam: self.beam, k: self.k };
         let out = (&mut ids[..most - self.short[2]], &mut dists[..most - self.short[3]]);
-        let v = vectors(self.n, self.dim, &self.bytes, self.metric);
+        let v = vectors(self.n, self.dim, &self.bytes);
         let given = match asked {
             Asked::Search => search(v, table, wanted, &self.query, scratch, out.0, out.1),
             Asked::Lookup => lookup(v, table, wanted, &self.query, scratch, out.0, out.1),
@@ -172,7 +170,6 @@ pub struct Nearest {
     pub n: usize,
     pub dim: usize,
     pub bytes: Vec<u8>,
-    pub metric: Metric,
     pub k: usize,
     pub query: Vec<u8>,
     /// How much is taken away from the ids and the distances.
@@ -184,7 +181,6 @@ pub fn line_nearest(query: u8, k: usize) -> Nearest {
         n: 4,
         dim: 1,
         bytes: LINE.to_vec(),
-        metric: Metric::Squared,
         k,
         query: vec![query],
         short: [0; 2],
@@ -196,7 +192,7 @@ impl Nearest {
     pub fn answers(&self) -> Result<Vec<(u32, f32)>, Refusal> {
         let most = most_nearest(self.bytes.len() / self.dim.clamp(1, 256), self.k);
         let (mut ids, mut dists) = (words(most), floats(most));
-        let v = vectors(self.n, self.dim, &self.bytes, self.metric);
+        let v = vectors(self.n, self.dim, &self.bytes);
         let out = (&mut ids[..most - self.short[0]], &mut dists[..most - self.short[1]]);
         let given = exhaustive(v, self.k, &self.query, out.0, out.1);
         let count = *given.as_ref().unwrap_or(&0);
@@ -218,13 +214,7 @@ pub fn reported(s: &Search) -> Result<Report, Refusal> {
         start: s.start,
         rows: &s.rows,
     };
-    let given = report(
-        vectors(s.n, s.dim, &s.bytes, s.metric),
-        table,
-        Wanted { beam: s.beam, k: s.k },
-        &s.query,
-        scratch,
-    );
+    let given = report(vectors(s.n, s.dim, &s.bytes), table, Wanted { beam: s.beam, k: s.k }, &s.query, scratch);
     let used = if given.is_ok() { (room.words, room.floats) } else { (0, 0) };
     assert!(is_zero(&w[..used.0]) && is_zero(&bits(&f[..used.1])), "room left zero");
     assert!(
@@ -247,7 +237,6 @@ pub struct Build {
     pub n: usize,
     pub dim: usize,
     pub bytes: Vec<u8>,
-    pub metric: Metric,
     pub params: Params,
     pub start: u32,
     pub order: Vec<u32>,
@@ -263,7 +252,6 @@ pub fn line_build() -> Build {
         n: 4,
         dim: 1,
         bytes: LINE.to_vec(),
-        metric: Metric::Squared,
         params: Params {
             degree: 2,
             beam: 8,
@@ -299,7 +287,7 @@ impl Build {
             floats: &mut f[..room.floats - self.short[3]],
         };
         let tables = (&mut wide[..wide_end], &mut closed[..closed_words - self.short[1]]);
-        let v = vectors(self.n, self.dim, &self.bytes, self.metric);
+        let v = vectors(self.n, self.dim, &self.bytes);
         let given = match call {
             Call::Whole => build(v, self.params, self.start, &self.order, &self.seeds, &self.opening, tables.0, tables.1, scratch),
             Call::Batch => batch(v, self.params, self.start, &self.order, &self.seeds, tables.0, scratch),

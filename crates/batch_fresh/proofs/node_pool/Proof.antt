@@ -7,7 +7,7 @@ use lib.ListN.{length}
 use borrow.Author.Rules.{rules}
 use Rattle.definition.specs.Metric.{fromQuery}
 use Rattle.metric.specs.Laws.{vector-in, lent-vector, lent_length}
-use Rattle.given.specs.Given.{given, space_of, degree-slack}
+use Rattle.given.specs.Given.{given, degree-slack}
 use Rattle.batch_pool.specs.Regions.{stage, Grown, pooledIds}
 use Rattle.batch_fresh.specs.Made.{plan_of}
 use Rattle.batch_fresh.proofs.Making.{holding-blank}
@@ -48,12 +48,11 @@ collect-pool-requires c κs =
     let a = s.args in
     let limits = s.requires.0.limits in
     let i = s.requires.1.1.1.0 in
-    let over = space_of (given a.g a.vectors.now) in
-    let v = vector-in over a.node limits.vectors-are i.node_in in (
+    let v = vector-in a.g.dim a.vectors.now a.g.n a.node limits.vectors-are i.node_in in (
       record {
         ground =
             record {
-              measures = record { vectors-are = limits.vectors-are; query-is = lent_length over a.node v; few = limits.dim-few };
+              measures = record { vectors-are = limits.vectors-are; query-is = lent_length a.g.dim a.vectors.now a.node v; few = limits.dim-few };
               size = s.requires.1.0.size;
               narrow = omega (arith, (degree-slack a.g.params.degree a.g.slack limits.width_is limits.degree-few).1);
             };
@@ -69,14 +68,13 @@ returns c =
     let s = c.before.before.before.before.before.before.before.before.before in
     let a = s.args in
     let plan = plan_of (given a.g a.vectors.now) in
-    let over = space_of (given a.g a.vectors.now) in
-    let from : List ℕ → ℕ → ℕ = fromQuery over in (
+    let from : List ℕ → ℕ → ℕ = fromQuery a.g.dim a.vectors.now in (
       record {
         grown =
             subst
             (λ (v : List ℕ). Grown plan k.result.epoch (stage a.words.now (a.p + 1) 0) (stage k.new.0 (a.p + 1) k.result.len)
             (pooledIds plan (from v) a.wide.now a.node a.start a.seeds.now) (from v))
-            (lent-vector over a.node) k.ensures.0;
+            (lent-vector a.g.dim a.vectors.now a.node) k.ensures.0;
       },
       k.ensures.1,
     )

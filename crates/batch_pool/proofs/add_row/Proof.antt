@@ -4,7 +4,6 @@ use Prim.Native.Nat.{◌-◌, ◌<◌}
 use native.Mathlib.Omega.{arith}
 use lib.ListN.{length}
 use Rattle.definition.specs.Metric.{fromQuery}
-use Rattle.metric.specs.Exact.{space}
 use Rattle.metric.specs.Laws.{vector-in}
 use Rattle.batch_pool.specs.Pooled.{poolAs}
 use Rattle.batch_pool.proofs.Rows.{RowSoFar, row-start, row_done, row-pad, row-real}
@@ -13,11 +12,11 @@ use Rattle.batch_pool.proofs.add_row.Statement.{statement}
 use Rattle.batch_pool.proofs.add_row.Tie as tie
 
 abbrev invariant-loop : tie.invariant-loop
-invariant-loop pool₀ stamp row g vectors query len₀ k₀ pool len k =
-    RowSoFar g.n row (fromQuery (space g vectors) query) (poolAs pool₀ stamp 0) (poolAs pool stamp len) k
+invariant-loop pool₀ n stamp row dim vectors query len₀ k₀ pool len k =
+    RowSoFar n row (fromQuery dim vectors query) (poolAs pool₀ stamp 0) (poolAs pool stamp len) k
 
 abbrev decreases-loop : tie.decreases-loop
-decreases-loop pool₀ stamp row g vectors query len₀ k₀ pool len k = length row - k
+decreases-loop pool₀ n stamp row dim vectors query len₀ k₀ pool len k = length row - k
 
 loop-holds : tie.Need-loop-init invariant-loop decreases-loop
 loop-holds c = let s = c.before.before.before.before in row-start _ _ _ _ s.requires.0
@@ -36,7 +35,7 @@ from-query-requires c κs =
     let l = c.before.before.before in
     let s = l.before.before.before.before.before in
     let m = s.requires.1.1.0 in
-    (vector-in _ _ m.vectors-are (s.requires.1.1.1 l.loop.k (omega arith) c.if1.true), (m.query-is, m.few))
+    (vector-in _ _ _ _ m.vectors-are (s.requires.1.1.1 l.loop.k (omega arith) c.if1.true), (m.query-is, m.few))
 
 add-once-requires : tie.Need-add-once-requires invariant-loop decreases-loop
 add-once-requires c κs =

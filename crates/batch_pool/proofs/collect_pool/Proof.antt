@@ -9,7 +9,7 @@ use Rattle.definition.specs.Tables.{ids}
 use Rattle.laws.specs.Parts.{part}
 use Rattle.laws.specs.Words.{searchable-part}
 use Rattle.theory.specs.build.Walks.{nodeWalks, node-walks, epochEnd}
-use Rattle.greedy.specs.Scratch.{over, row_in}
+use Rattle.greedy.specs.Scratch.{row_in}
 use Rattle.batch_pool.specs.Regions.{stage, Grown}
 use Rattle.batch_pool.proofs.Lending.{returned}
 use Rattle.batch_pool.proofs.Growing.{grown-row, grown-pool}
@@ -24,7 +24,7 @@ called c = c.before.before.before.before.before.before.before
 -- the row is within the wide table
 fits : (c : tie.After-pool-end)
     → let a = (called c).args in (a.node * a.p.width + a.p.width ≤ length a.wide.now) × (length a.wide.now ≤ 8388608)
-fits c = let s = called c in row_in s.pre.0.ground s.pre.1.0.1.room.roomy.nodes s.args.node s.pre.1.1.0
+fits c = let s = called c in row_in s.pre.0.ground s.pre.1.0.1.room.space.nodes s.args.node s.pre.1.1.0
 
 -- its walks are one and those from the seeds
 walks : (s : tie.Start)
@@ -36,7 +36,7 @@ row-grown : (c : tie.After-add-row)
     → let a = (called c.before.before.before).args in
     let s₀ = stage a.words.now a.stamp 0 in
     Grown a.p a.epoch s₀ (returned a.p.n s₀ c.add_row.new.0 c.add_row.result)
-    (ids (part (a.node * a.p.width) (a.node * a.p.width + a.p.width) a.wide.now)) (fromQuery (over a.p a.vectors.now) a.query.now)
+    (ids (part (a.node * a.p.width) (a.node * a.p.width + a.p.width) a.wide.now)) (fromQuery a.p.dim a.vectors.now a.query.now)
 row-grown c =
     let o = c.before.before.before in
     let r = c.add_row in
@@ -89,7 +89,7 @@ add-row-requires c κs =
     rw (o.before.pool-at.ensures, o.pool-end.ensures) (
       h.pooled,
       (
-        h.room.roomy.nodes,
+        h.room.space.nodes,
         (s.pre.0.ground.measures, searchable-part _ s.args.wide.now from (from + s.args.p.width) s.pre.0.rows),
       ),
     )

@@ -16,7 +16,7 @@ tests s =
 abbrev start-1 : tie.Else1 → tie.Start
 start-1 c = c.before.before.before.before.before.before
 
-clear-1 : (c : tie.Else1) → Clear 7 (tests (start-1 c))
+clear-1 : (c : tie.Else1) → Clear 6 (tests (start-1 c))
 clear-1 c =
     let s = (start-1 c).args in
     record { no = params-clear s.n s.dim s.vectors.now s.params s.start (sym c.before.params-number.ensures ∙ c.if1.false) }
@@ -24,28 +24,28 @@ clear-1 c =
 abbrev start-2 : tie.Else2 → tie.Start
 start-2 c = start-1 c.before.before
 
-clear-2 : (c : tie.Else2) → Clear 8 (tests (start-2 c))
+clear-2 : (c : tie.Else2) → Clear 7 (tests (start-2 c))
 unfolding holdsAt
 clear-2 c = past_one (clear-1 c.before.before) c.before.bad-seeds.ensures c.if2.false
 
 abbrev start-3 : tie.Else3 → tie.Start
 start-3 c = start-2 c.before.before
 
-clear-3 : (c : tie.Else3) → Clear 9 (tests (start-3 c))
+clear-3 : (c : tie.Else3) → Clear 8 (tests (start-3 c))
 unfolding holdsAt
 clear-3 c = past_one (clear-2 c.before.before) c.before.bad-wide.ensures c.if3.false
 
 abbrev start-4 : tie.Else4 → tie.Start
 start-4 c = start-3 c.before.before
 
-clear-4 : (c : tie.Else4) → Clear 10 (tests (start-4 c))
+clear-4 : (c : tie.Else4) → Clear 9 (tests (start-4 c))
 unfolding holdsAt
 clear-4 c = past_one (clear-3 c.before.before) c.before.bad-nodes.ensures c.if4.false
 
 abbrev start-5 : tie.Else5 → tie.Start
 start-5 c = start-4 c.before.before
 
-clear-5 : (c : tie.Else5) → Clear 11 (tests (start-5 c))
+clear-5 : (c : tie.Else5) → Clear 10 (tests (start-5 c))
 unfolding holdsAt
 clear-5 c = past_one (clear-4 c.before.before) c.before.build-short.ensures c.if5.false
 

@@ -39,28 +39,21 @@ start-4 c = start-3 c.before.before
 
 clear-4 : (c : tie.Else4) → Clear 5 (tests (start-4 c))
 unfolding holdsAt
-clear-4 c = past_one (clear-3 c.before.before) c.before.bad-metric.ensures c.if4.false
+clear-4 c = past_one (clear-3 c.before.before) c.before.bad-wide.ensures c.if4.false
 
 abbrev start-5 : tie.Else5 → tie.Start
 start-5 c = start-4 c.before.before
 
 clear-5 : (c : tie.Else5) → Clear 6 (tests (start-5 c))
 unfolding holdsAt
-clear-5 c = past_one (clear-4 c.before.before) c.before.bad-wide.ensures c.if5.false
+clear-5 c = past_one (clear-4 c.before.before) c.before.bad-length.ensures c.if5.false
 
 abbrev start-6 : tie.Else6 → tie.Start
 start-6 c = start-5 c.before.before
 
 clear-6 : (c : tie.Else6) → Clear 7 (tests (start-6 c))
 unfolding holdsAt
-clear-6 c = past_one (clear-5 c.before.before) c.before.bad-length.ensures c.if6.false
-
-abbrev start-7 : tie.Else7 → tie.Start
-start-7 c = start-6 c.before.before
-
-clear-7 : (c : tie.Else7) → Clear 8 (tests (start-7 c))
-unfolding holdsAt
-clear-7 c = past_one (clear-6 c.before.before) c.before.build-short.ensures c.if7.false
+clear-6 c = past_one (clear-5 c.before.before) c.before.build-short.ensures c.if6.false
 
 entries-number-requires : tie.Need-entries-number-requires
 entries-number-requires c κs = search rules
@@ -82,39 +75,32 @@ returns-3 : tie.Need-returns-3
 unfolding holdsAt number_at
 returns-3 c = close-numbered (found (clear-2 c.before.before) c.before.bad-alpha.ensures c.if3.true)
 
-bad-metric-requires : tie.Need-bad-metric-requires
-bad-metric-requires c κs = search rules
+bad-wide-requires : tie.Need-bad-wide-requires
+unfolding holdsAt
+bad-wide-requires c κs = ((vectors-good _ _ _ ((clear-3 c).no 1)).1, (degree-good _ ((clear-3 c).no 2)).few)
 
 returns-4 : tie.Need-returns-4
 unfolding holdsAt number_at
-returns-4 c = close-numbered (found (clear-3 c.before.before) c.before.bad-metric.ensures c.if4.true)
-
-bad-wide-requires : tie.Need-bad-wide-requires
-unfolding holdsAt
-bad-wide-requires c κs = ((vectors-good _ _ _ ((clear-4 c).no 1)).1, (degree-good _ ((clear-4 c).no 2)).few)
-
-returns-5 : tie.Need-returns-5
-unfolding holdsAt number_at
-returns-5 c = close-numbered (found (clear-4 c.before.before) c.before.bad-wide.ensures c.if5.true)
+returns-4 c = close-numbered (found (clear-3 c.before.before) c.before.bad-wide.ensures c.if4.true)
 
 bad-length-requires : tie.Need-bad-length-requires
 unfolding holdsAt
-bad-length-requires c κs = ((vectors-good _ _ _ ((clear-5 c).no 1)).1, (let d = degree-good _ ((clear-5 c).no 2) in omega arith))
+bad-length-requires c κs = ((vectors-good _ _ _ ((clear-4 c).no 1)).1, (let d = degree-good _ ((clear-4 c).no 2) in omega arith))
 
-returns-6 : tie.Need-returns-6
+returns-5 : tie.Need-returns-5
 unfolding holdsAt number_at
-returns-6 c = close-numbered (found (clear-5 c.before.before) c.before.bad-length.ensures c.if6.true)
+returns-5 c = close-numbered (found (clear-4 c.before.before) c.before.bad-length.ensures c.if5.true)
 
 build-short-requires : tie.Need-build-short-requires
 unfolding holdsAt
-build-short-requires c κs = (vectors-good _ _ _ ((clear-6 c).no 1)).1
+build-short-requires c κs = (vectors-good _ _ _ ((clear-5 c).no 1)).1
+
+returns-6 : tie.Need-returns-6
+unfolding holdsAt number_at
+returns-6 c = close-numbered (found (clear-5 c.before.before) c.before.build-short.ensures c.if6.true)
 
 returns-7 : tie.Need-returns-7
-unfolding holdsAt number_at
-returns-7 c = close-numbered (found (clear-6 c.before.before) c.before.build-short.ensures c.if7.true)
-
-returns-8 : tie.Need-returns-8
-returns-8 c = close-numbered (nothing (clear-7 c))
+returns-7 c = close-numbered (nothing (clear-6 c))
 
 pub close-number-spec : {M : Type 1} → statement M
 close-number-spec =
@@ -126,12 +112,10 @@ close-number-spec =
     returns-2
     bad-alpha-requires
     returns-3
-    bad-metric-requires
-    returns-4
     bad-wide-requires
-    returns-5
+    returns-4
     bad-length-requires
-    returns-6
+    returns-5
     build-short-requires
-    returns-7
-    returns-8)
+    returns-6
+    returns-7)

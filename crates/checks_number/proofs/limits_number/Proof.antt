@@ -10,7 +10,7 @@ use Rattle.checks_number.proofs.limits_number.Tie as tie
 abbrev tests : tie.Start → Tests
 tests s =
     let a = s.args in
-    limitTests a.n a.dim a.vectors.now a.metric a.degree a.beam a.start
+    limitTests a.n a.dim a.vectors.now a.degree a.beam a.start
 
 abbrev start-1 : tie.Else1 → tie.Start
 start-1 c = c.before.before.before
@@ -37,14 +37,7 @@ start-4 c = start-3 c.before.before
 
 clear-4 : (c : tie.Else4) → Clear 5 (tests (start-4 c))
 unfolding holdsAt
-clear-4 c = past_one (clear-3 c.before.before) c.before.bad-metric.ensures c.if4.false
-
-abbrev start-5 : tie.Else5 → tie.Start
-start-5 c = start-4 c.before.before
-
-clear-5 : (c : tie.Else5) → Clear 6 (tests (start-5 c))
-unfolding holdsAt
-clear-5 c = past_one (clear-4 c.before.before) c.before.bad-start.ensures c.if5.false
+clear-4 c = past_one (clear-3 c.before.before) c.before.bad-start.ensures c.if4.false
 
 entries-number-requires : tie.Need-entries-number-requires
 entries-number-requires c κs = search rules
@@ -66,22 +59,15 @@ returns-3 : tie.Need-returns-3
 unfolding holdsAt number_at
 returns-3 c = found (clear-2 c.before.before) c.before.bad-beam.ensures c.if3.true
 
-bad-metric-requires : tie.Need-bad-metric-requires
-bad-metric-requires c κs = search rules
-
-returns-4 : tie.Need-returns-4
-unfolding holdsAt number_at
-returns-4 c = found (clear-3 c.before.before) c.before.bad-metric.ensures c.if4.true
-
 bad-start-requires : tie.Need-bad-start-requires
 bad-start-requires c κs = search rules
 
-returns-5 : tie.Need-returns-5
+returns-4 : tie.Need-returns-4
 unfolding holdsAt number_at
-returns-5 c = found (clear-4 c.before.before) c.before.bad-start.ensures c.if5.true
+returns-4 c = found (clear-3 c.before.before) c.before.bad-start.ensures c.if4.true
 
-returns-6 : tie.Need-returns-6
-returns-6 c = nothing (clear-5 c)
+returns-5 : tie.Need-returns-5
+returns-5 c = nothing (clear-4 c)
 
 pub limits-number-spec : {M : Type 1} → statement M
 limits-number-spec =
@@ -93,8 +79,6 @@ limits-number-spec =
     returns-2
     bad-beam-requires
     returns-3
-    bad-metric-requires
-    returns-4
     bad-start-requires
-    returns-5
-    returns-6)
+    returns-4
+    returns-5)

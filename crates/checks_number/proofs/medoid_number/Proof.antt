@@ -9,7 +9,7 @@ use Rattle.checks_number.proofs.medoid_number.Statement.{statement}
 use Rattle.checks_number.proofs.medoid_number.Tie as tie
 
 abbrev tests : tie.Start → Tests
-tests s = medoidTests s.args.n s.args.dim s.args.vectors.now s.args.metric s.args.pivots.now
+tests s = medoidTests s.args.n s.args.dim s.args.vectors.now s.args.pivots.now
 
 abbrev start-1 : tie.Else1 → tie.Start
 start-1 c = c.before.before.before.before
@@ -22,14 +22,7 @@ start-2 c = start-1 c.before.before
 
 clear-2 : (c : tie.Else2) → Clear 3 (tests (start-2 c))
 unfolding holdsAt
-clear-2 c = past_one (clear-1 c.before.before) c.before.bad-metric.ensures c.if2.false
-
-abbrev start-3 : tie.Else3 → tie.Start
-start-3 c = start-2 c.before.before
-
-clear-3 : (c : tie.Else3) → Clear 4 (tests (start-3 c))
-unfolding holdsAt
-clear-3 c = past_one (clear-2 c.before.before) c.before.bad-pivots.ensures c.if3.false
+clear-2 c = past_one (clear-1 c.before.before) c.before.bad-pivots.ensures c.if2.false
 
 entries-number-requires : tie.Need-entries-number-requires
 entries-number-requires c κs = search rules
@@ -37,23 +30,16 @@ entries-number-requires c κs = search rules
 returns : tie.Need-returns
 returns c = medoid-numbered (early _ _ c.before.entries-number.ensures c.if1.true)
 
-bad-metric-requires : tie.Need-bad-metric-requires
-bad-metric-requires c κs = search rules
+bad-pivots-requires : tie.Need-bad-pivots-requires
+unfolding holdsAt
+bad-pivots-requires c κs = (vectors-good _ _ _ ((clear-1 c).no 1)).1
 
 returns-2 : tie.Need-returns-2
 unfolding holdsAt number_at
-returns-2 c = medoid-numbered (found (clear-1 c.before.before) c.before.bad-metric.ensures c.if2.true)
-
-bad-pivots-requires : tie.Need-bad-pivots-requires
-unfolding holdsAt
-bad-pivots-requires c κs = (vectors-good _ _ _ ((clear-2 c).no 1)).1
+returns-2 c = medoid-numbered (found (clear-1 c.before.before) c.before.bad-pivots.ensures c.if2.true)
 
 returns-3 : tie.Need-returns-3
-unfolding holdsAt number_at
-returns-3 c = medoid-numbered (found (clear-2 c.before.before) c.before.bad-pivots.ensures c.if3.true)
-
-returns-4 : tie.Need-returns-4
-returns-4 c = medoid-numbered (nothing (clear-3 c))
+returns-3 c = medoid-numbered (nothing (clear-2 c))
 
 pub medoid-number-spec : {M : Type 1} → statement M
 medoid-number-spec =
@@ -61,8 +47,6 @@ medoid-number-spec =
     (tie.spec
     entries-number-requires
     returns
-    bad-metric-requires
-    returns-2
     bad-pivots-requires
-    returns-3
-    returns-4)
+    returns-2
+    returns-3)

@@ -43,14 +43,7 @@ start-5 c = start-4 c.before.before
 
 clear-5 : (c : tie.Else5) → Clear 6 (tests (start-5 c))
 unfolding holdsAt
-clear-5 c = past_one (clear-4 c.before.before) c.before.bad-metric.ensures c.if5.false
-
-abbrev start-6 : tie.Else6 → tie.Start
-start-6 c = start-5 c.before.before
-
-clear-6 : (c : tie.Else6) → Clear 7 (tests (start-6 c))
-unfolding holdsAt
-clear-6 c = past_one (clear-5 c.before.before) c.before.bad-start.ensures c.if6.false
+clear-5 c = past_one (clear-4 c.before.before) c.before.bad-start.ensures c.if5.false
 
 entries-number-requires : tie.Need-entries-number-requires
 entries-number-requires c κs = search rules
@@ -79,22 +72,15 @@ returns-4 : tie.Need-returns-4
 unfolding holdsAt number_at
 returns-4 c = found (clear-3 c.before.before) c.before.bad-alpha.ensures c.if4.true
 
-bad-metric-requires : tie.Need-bad-metric-requires
-bad-metric-requires c κs = search rules
-
-returns-5 : tie.Need-returns-5
-unfolding holdsAt number_at
-returns-5 c = found (clear-4 c.before.before) c.before.bad-metric.ensures c.if5.true
-
 bad-start-requires : tie.Need-bad-start-requires
 bad-start-requires c κs = search rules
 
-returns-6 : tie.Need-returns-6
+returns-5 : tie.Need-returns-5
 unfolding holdsAt number_at
-returns-6 c = found (clear-5 c.before.before) c.before.bad-start.ensures c.if6.true
+returns-5 c = found (clear-4 c.before.before) c.before.bad-start.ensures c.if5.true
 
-returns-7 : tie.Need-returns-7
-returns-7 c = nothing (clear-6 c)
+returns-6 : tie.Need-returns-6
+returns-6 c = nothing (clear-5 c)
 
 pub params-number-spec : {M : Type 1} → statement M
 params-number-spec =
@@ -108,8 +94,6 @@ params-number-spec =
     returns-3
     bad-alpha-requires
     returns-4
-    bad-metric-requires
-    returns-5
     bad-start-requires
-    returns-6
-    returns-7)
+    returns-5
+    returns-6)

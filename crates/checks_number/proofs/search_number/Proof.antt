@@ -10,19 +10,19 @@ use Rattle.checks_number.proofs.search_number.Tie as tie
 abbrev tests : tie.Start → Tests
 tests s =
     let a = s.args in
-    searchTests a.n a.dim a.vectors.now a.metric a.degree a.beam a.k a.start a.table.now a.query.now
+    searchTests a.n a.dim a.vectors.now a.degree a.beam a.k a.start a.table.now a.query.now
     a.words a.floats a.ids a.dists a.run
 
 abbrev start-1 : tie.Else1 → tie.Start
 start-1 c = c.before.before.before.before.before
 
-clear-1 : (c : tie.Else1) → Clear 6 (tests (start-1 c))
-clear-1 c = record { no = limits-clear _ _ _ _ _ _ _ (sym c.before.limits-number.ensures ∙ c.if1.false) }
+clear-1 : (c : tie.Else1) → Clear 5 (tests (start-1 c))
+clear-1 c = record { no = limits-clear _ _ _ _ _ _ (sym c.before.limits-number.ensures ∙ c.if1.false) }
 
 abbrev start-2 : tie.Else2 → tie.Start
 start-2 c = start-1 c.before.before
 
-clear-2 : (c : tie.Else2) → Clear 7 (tests (start-2 c))
+clear-2 : (c : tie.Else2) → Clear 6 (tests (start-2 c))
 unfolding holdsAt
 clear-2 c = past_one (clear-1 c.before.before) c.before.bad-searched.ensures c.if2.false
 

@@ -12,7 +12,7 @@ use Rattle.checks_recall.proofs.exhaustive_number.Tie as tie
 abbrev tests : tie.Start → Tests
 tests s =
     let a = s.args in
-    exhaustiveTests a.n a.dim a.vectors.now a.metric a.k a.query a.ids a.dists
+    exhaustiveTests a.n a.dim a.vectors.now a.k a.query a.ids a.dists
 
 abbrev start-1 : tie.Else1 → tie.Start
 start-1 c = c.before.before.before
@@ -25,28 +25,21 @@ start-2 c = start-1 c.before.before
 
 clear-2 : (c : tie.Else2) → Clear 3 (tests (start-2 c))
 unfolding holdsAt
-clear-2 c = past_one (clear-1 c.before.before) c.before.bad-metric.ensures c.if2.false
+clear-2 c = past_one (clear-1 c.before.before) c.before.nearest-short.ensures c.if2.false
 
 abbrev start-3 : tie.Else3 → tie.Start
-start-3 c = start-2 c.before.before
+start-3 c = start-2 c.before
 
 clear-3 : (c : tie.Else3) → Clear 4 (tests (start-3 c))
 unfolding holdsAt
-clear-3 c = past_one (clear-2 c.before.before) c.before.nearest-short.ensures c.if3.false
+clear-3 c = past_one (clear-2 c.before) refl (ap not (eq-eqb _ _ c.if3.false))
 
 abbrev start-4 : tie.Else4 → tie.Start
-start-4 c = start-3 c.before
+start-4 c = start-3 c.before.before
 
 clear-4 : (c : tie.Else4) → Clear 5 (tests (start-4 c))
 unfolding holdsAt
-clear-4 c = past_one (clear-3 c.before) refl (ap not (eq-eqb _ _ c.if4.false))
-
-abbrev start-5 : tie.Else5 → tie.Start
-start-5 c = start-4 c.before.before
-
-clear-5 : (c : tie.Else5) → Clear 6 (tests (start-5 c))
-unfolding holdsAt
-clear-5 c = past_one (clear-4 c.before.before) c.before.bad-k.ensures c.if5.false
+clear-4 c = past_one (clear-3 c.before.before) c.before.bad-k.ensures c.if4.false
 
 entries-number-requires : tie.Need-entries-number-requires
 entries-number-requires c κs = search rules
@@ -54,33 +47,26 @@ entries-number-requires c κs = search rules
 returns : tie.Need-returns
 returns c = exhaustive-numbered (early _ _ c.before.entries-number.ensures c.if1.true)
 
-bad-metric-requires : tie.Need-bad-metric-requires
-bad-metric-requires c κs = search rules
-
-returns-2 : tie.Need-returns-2
-unfolding holdsAt number_at
-returns-2 c = exhaustive-numbered (found (clear-1 c.before.before) c.before.bad-metric.ensures c.if2.true)
-
 nearest-short-requires : tie.Need-nearest-short-requires
 nearest-short-requires c κs = search rules
 
+returns-2 : tie.Need-returns-2
+unfolding holdsAt number_at
+returns-2 c = exhaustive-numbered (found (clear-1 c.before.before) c.before.nearest-short.ensures c.if2.true)
+
 returns-3 : tie.Need-returns-3
 unfolding holdsAt number_at
-returns-3 c = exhaustive-numbered (found (clear-2 c.before.before) c.before.nearest-short.ensures c.if3.true)
-
-returns-4 : tie.Need-returns-4
-unfolding holdsAt number_at
-returns-4 c = exhaustive-numbered (found (clear-3 c.before) refl (ap not (ne_eqb _ _ c.if4.true)))
+returns-3 c = exhaustive-numbered (found (clear-2 c.before) refl (ap not (ne_eqb _ _ c.if3.true)))
 
 bad-k-requires : tie.Need-bad-k-requires
 bad-k-requires c κs = search rules
 
-returns-5 : tie.Need-returns-5
+returns-4 : tie.Need-returns-4
 unfolding holdsAt number_at
-returns-5 c = exhaustive-numbered (found (clear-4 c.before.before) c.before.bad-k.ensures c.if5.true)
+returns-4 c = exhaustive-numbered (found (clear-3 c.before.before) c.before.bad-k.ensures c.if4.true)
 
-returns-6 : tie.Need-returns-6
-returns-6 c = exhaustive-numbered (nothing (clear-5 c))
+returns-5 : tie.Need-returns-5
+returns-5 c = exhaustive-numbered (nothing (clear-4 c))
 
 pub exhaustive-number-spec : {M : Type 1} → statement M
 exhaustive-number-spec =
@@ -88,11 +74,9 @@ exhaustive-number-spec =
     (tie.spec
     entries-number-requires
     returns
-    bad-metric-requires
-    returns-2
     nearest-short-requires
+    returns-2
     returns-3
-    returns-4
     bad-k-requires
-    returns-5
-    returns-6)
+    returns-4
+    returns-5)

@@ -11,40 +11,39 @@ use Rattle.checks_recall.proofs.report_number.Tie as tie
 abbrev tests : tie.Start → Tests
 tests s =
     let a = s.args in
-    reportTests a.n a.dim a.vectors.now a.metric a.degree a.beam a.k a.start a.table.now a.queries
-    a.words a.floats
+    reportTests a.n a.dim a.vectors.now a.degree a.beam a.k a.start a.table.now a.queries a.words a.floats
 
 abbrev start-1 : tie.Else1 → tie.Start
 start-1 c = c.before.before.before.before
 
-clear-1 : (c : tie.Else1) → Clear 6 (tests (start-1 c))
-clear-1 c = record { no = limits-clear _ _ _ _ _ _ _ (sym c.before.limits-number.ensures ∙ c.if1.false) }
+clear-1 : (c : tie.Else1) → Clear 5 (tests (start-1 c))
+clear-1 c = record { no = limits-clear _ _ _ _ _ _ (sym c.before.limits-number.ensures ∙ c.if1.false) }
 
 abbrev start-2 : tie.Else2 → tie.Start
 start-2 c = start-1 c.before.before
 
-clear-2 : (c : tie.Else2) → Clear 7 (tests (start-2 c))
+clear-2 : (c : tie.Else2) → Clear 6 (tests (start-2 c))
 unfolding holdsAt
 clear-2 c = past_one (clear-1 c.before.before) c.before.bad-searched.ensures c.if2.false
 
 abbrev start-3 : tie.Else3 → tie.Start
 start-3 c = start-2 c.before.before
 
-clear-3 : (c : tie.Else3) → Clear 8 (tests (start-3 c))
+clear-3 : (c : tie.Else3) → Clear 7 (tests (start-3 c))
 unfolding holdsAt
 clear-3 c = past_one (clear-2 c.before.before) c.before.report-short.ensures c.if3.false
 
 abbrev start-4 : tie.Else4 → tie.Start
 start-4 c = start-3 c.before.before
 
-clear-4 : (c : tie.Else4) → Clear 9 (tests (start-4 c))
+clear-4 : (c : tie.Else4) → Clear 8 (tests (start-4 c))
 unfolding holdsAt
 clear-4 c = past_one (clear-3 c.before.before) c.before.bad-queries.ensures c.if4.false
 
 abbrev start-5 : tie.Else5 → tie.Start
 start-5 c = start-4 c.before.before
 
-clear-5 : (c : tie.Else5) → Clear 10 (tests (start-5 c))
+clear-5 : (c : tie.Else5) → Clear 9 (tests (start-5 c))
 unfolding holdsAt
 clear-5 c = past_one (clear-4 c.before.before) c.before.bad-k.ensures c.if5.false
 

@@ -17,7 +17,7 @@ use Rattle.definition.specs.checked.Recalls.{nearCall, reportCall}
 -- ---- the calls. Degree 2, so slack 3; beam 2, alpha 1.2, one seed for each node
 
 unfoldable pub lineParams : Params
-lineParams = record { degree = 2; beam = 2; alpha = of_bits binary32 0x3F99999A; metric = 0; extra = 1 }
+lineParams = record { degree = 2; beam = 2; alpha = of_bits binary32 0x3F99999A; extra = 1 }
 
 unfoldable pub lineOrder : List ℕ
 lineOrder = 2 ∷ 0 ∷ 3 ∷ 1 ∷ []
@@ -80,7 +80,7 @@ lineBuild =
 
 -- ---- none is refused
 
-pub distance-passes : distanceNumber (record { first = 0 ∷ []; second = 254 ∷ []; metric = 0 }) ≡ 0
+pub distance-passes : distanceNumber (record { first = 0 ∷ []; second = 254 ∷ [] }) ≡ 0
 unfolding opened
 distance-passes = refl
 
@@ -100,7 +100,7 @@ pub build-passes : buildNumber lineBuild ≡ 0
 unfolding opened lineBuild lineOpening line lineParams lineOrder lineSeeds
 build-passes = refl
 
-pub medoid-passes : medoidNumber (record { n = 4; dim = 1; vectors = line; metric = 0; pivots = 0 ∷ 3 ∷ [] }) ≡ 0
+pub medoid-passes : medoidNumber (record { n = 4; dim = 1; vectors = line; pivots = 0 ∷ 3 ∷ [] }) ≡ 0
 unfolding opened line
 medoid-passes = refl
 

@@ -5,7 +5,6 @@ use Rattle.std.specs.Prelude.{ℕ, zero, suc, ◌*◌, List, [], ◌∷◌, ◌+
 use Rattle.std.specs.Float.{binary32}
 use Rattle.std.specs.Float.Ieee.{of_bits}
 use Rattle.definition.specs.declared.Params.{Params}
-use Rattle.definition.specs.checked.Spaces.{space}
 use Rattle.definition.specs.Metric.{between, fromQuery}
 use Rattle.definition.specs.Tables.{pad, row}
 use Rattle.definition.specs.Beam.{Item}
@@ -94,14 +93,14 @@ twelveClosed =
 
 unfoldable pub twelveCall : BuildCall
 twelveCall =
-    buildCall 12 2 twelveVectors (record { degree = 3; beam = 4; alpha = of_bits binary32 0x3F99999A; metric = 0; extra = 1 }) 0
+    buildCall 12 2 twelveVectors (record { degree = 3; beam = 4; alpha = of_bits binary32 0x3F99999A; extra = 1 }) 0
     twelveOrder twelveSeeds twelveOpening
 
 pub twelve-drawn : drawnFor 12 3 1 0 5 ≡ twelveOpening ∷ twelveOrder ∷ twelvePivots ∷ twelveSeeds ∷ (1784139980932280426 ∷ []) ∷ []
 unfolding drawnFor twelveOpening twelveOrder twelvePivots twelveSeeds opened
 twelve-drawn = refl
 
-pub twelve-medoid : medoid (between (space 12 2 twelveVectors 0)) twelvePivots 12 ≡ 0
+pub twelve-medoid : medoid (between 2 twelveVectors) twelvePivots 12 ≡ 0
 unfolding twelveVectors twelvePivots opened
 twelve-medoid = refl
 
@@ -109,12 +108,12 @@ pub twelve-built : shown (buildOut twelveCall) ≡ (0 ∷ []) ∷ twelveWide ∷
 unfolding shown buildCall twelveVectors twelveOrder twelveSeeds twelveOpening twelveCall twelveWide twelveClosed opened
 twelve-built = refl
 
-pub twelve-search0 : pairs (answers (fromQuery (space 12 2 twelveVectors 0) (64 ∷ 67 ∷ [])) (row 3 twelveClosed) 12 4 0 4)
+pub twelve-search0 : pairs (answers (fromQuery 2 twelveVectors (64 ∷ 67 ∷ [])) (row 3 twelveClosed) 12 4 0 4)
     ≡ 3 ∷ 356 ∷ 10 ∷ 1250 ∷ 6 ∷ 3744 ∷ 7 ∷ 5213 ∷ []
 unfolding pairs twelveVectors twelveClosed opened
 twelve-search0 = refl
 
-pub twelve-search1 : pairs (answers (fromQuery (space 12 2 twelveVectors 0) (0 ∷ 2 ∷ [])) (row 3 twelveClosed) 12 4 0 4)
+pub twelve-search1 : pairs (answers (fromQuery 2 twelveVectors (0 ∷ 2 ∷ [])) (row 3 twelveClosed) 12 4 0 4)
     ≡ 10 ∷ 7717 ∷ 3 ∷ 9425 ∷ 2 ∷ 16705 ∷ 6 ∷ 18329 ∷ []
 unfolding pairs twelveVectors twelveClosed opened
 twelve-search1 = refl
@@ -147,14 +146,14 @@ tenClosed = 1 ∷ 2 ∷ 3 ∷ 0 ∷ 0 ∷ 7 ∷ 1 ∷ 7 ∷ 8 ∷ 1 ∷ 1 ∷ 8 
 
 unfoldable pub tenCall : BuildCall
 tenCall =
-    buildCall 10 1 tenVectors (record { degree = 2; beam = 0; alpha = of_bits binary32 0x3F99999A; metric = 0; extra = 1 }) 1
+    buildCall 10 1 tenVectors (record { degree = 2; beam = 0; alpha = of_bits binary32 0x3F99999A; extra = 1 }) 1
     tenOrder tenSeeds tenOpening
 
 pub ten-drawn : drawnFor 10 2 1 1 6 ≡ tenOpening ∷ tenOrder ∷ tenPivots ∷ tenSeeds ∷ (6167381459204646657 ∷ []) ∷ []
 unfolding drawnFor tenOpening tenOrder tenPivots tenSeeds opened
 ten-drawn = refl
 
-pub ten-medoid : medoid (between (space 10 1 tenVectors 0)) tenPivots 10 ≡ 1
+pub ten-medoid : medoid (between 1 tenVectors) tenPivots 10 ≡ 1
 unfolding tenVectors tenPivots opened
 ten-medoid = refl
 
@@ -162,12 +161,12 @@ pub ten-built : shown (buildOut tenCall) ≡ (0 ∷ []) ∷ tenWide ∷ tenClose
 unfolding shown buildCall tenVectors tenOrder tenSeeds tenOpening tenCall tenWide tenClosed opened
 ten-built = refl
 
-pub ten-search0 : pairs (answers (fromQuery (space 10 1 tenVectors 0) (102 ∷ [])) (row 2 tenClosed) 10 3 1 3)
+pub ten-search0 : pairs (answers (fromQuery 1 tenVectors (102 ∷ [])) (row 2 tenClosed) 10 3 1 3)
     ≡ 0 ∷ 0 ∷ 3 ∷ 1 ∷ 1 ∷ 1 ∷ []
 unfolding pairs tenVectors tenClosed opened
 ten-search0 = refl
 
-pub ten-search1 : pairs (answers (fromQuery (space 10 1 tenVectors 0) (100 ∷ [])) (row 2 tenClosed) 10 3 1 3)
+pub ten-search1 : pairs (answers (fromQuery 1 tenVectors (100 ∷ [])) (row 2 tenClosed) 10 3 1 3)
     ≡ 7 ∷ 1 ∷ 2 ∷ 1 ∷ 0 ∷ 4 ∷ []
 unfolding pairs tenVectors tenClosed opened
 ten-search1 = refl
@@ -213,14 +212,14 @@ thirteenClosed =
 
 unfoldable pub thirteenCall : BuildCall
 thirteenCall =
-    buildCall 13 2 thirteenVectors (record { degree = 5; beam = 6; alpha = of_bits binary32 0x40000000; metric = 0; extra = 3 }) 10
+    buildCall 13 2 thirteenVectors (record { degree = 5; beam = 6; alpha = of_bits binary32 0x40000000; extra = 3 }) 10
     thirteenOrder thirteenSeeds thirteenOpening
 
 pub thirteen-drawn : drawnFor 13 5 3 10 10 ≡ thirteenOpening ∷ thirteenOrder ∷ thirteenPivots ∷ thirteenSeeds ∷ (6555319476050480434 ∷ []) ∷ []
 unfolding drawnFor thirteenOpening thirteenOrder thirteenPivots thirteenSeeds opened
 thirteen-drawn = refl
 
-pub thirteen-medoid : medoid (between (space 13 2 thirteenVectors 0)) thirteenPivots 13 ≡ 10
+pub thirteen-medoid : medoid (between 2 thirteenVectors) thirteenPivots 13 ≡ 10
 unfolding thirteenVectors thirteenPivots opened
 thirteen-medoid = refl
 
@@ -228,12 +227,12 @@ pub thirteen-built : shown (buildOut thirteenCall) ≡ (0 ∷ []) ∷ thirteenWi
 unfolding shown buildCall thirteenVectors thirteenOrder thirteenSeeds thirteenOpening thirteenCall thirteenWide thirteenClosed opened
 thirteen-built = refl
 
-pub thirteen-search0 : pairs (answers (fromQuery (space 13 2 thirteenVectors 0) (101 ∷ 101 ∷ [])) (row 5 thirteenClosed) 13 6 10 6)
+pub thirteen-search0 : pairs (answers (fromQuery 2 thirteenVectors (101 ∷ 101 ∷ [])) (row 5 thirteenClosed) 13 6 10 6)
     ≡ 5 ∷ 0 ∷ 8 ∷ 1 ∷ 6 ∷ 1 ∷ 0 ∷ 1 ∷ 1 ∷ 4 ∷ 3 ∷ 5 ∷ []
 unfolding pairs thirteenVectors thirteenClosed opened
 thirteen-search0 = refl
 
-pub thirteen-search1 : pairs (answers (fromQuery (space 13 2 thirteenVectors 0) (103 ∷ 101 ∷ [])) (row 5 thirteenClosed) 13 6 10 6)
+pub thirteen-search1 : pairs (answers (fromQuery 2 thirteenVectors (103 ∷ 101 ∷ [])) (row 5 thirteenClosed) 13 6 10 6)
     ≡ 1 ∷ 0 ∷ 3 ∷ 1 ∷ 0 ∷ 1 ∷ 10 ∷ 4 ∷ 5 ∷ 4 ∷ 6 ∷ 5 ∷ []
 unfolding pairs thirteenVectors thirteenClosed opened
 thirteen-search1 = refl
@@ -272,14 +271,14 @@ fourteenClosed =
 
 unfoldable pub fourteenCall : BuildCall
 fourteenCall =
-    buildCall 14 2 fourteenVectors (record { degree = 2; beam = 2; alpha = of_bits binary32 0x3F99999A; metric = 0; extra = 1 }) 8
+    buildCall 14 2 fourteenVectors (record { degree = 2; beam = 2; alpha = of_bits binary32 0x3F99999A; extra = 1 }) 8
     fourteenOrder fourteenSeeds fourteenOpening
 
 pub fourteen-drawn : drawnFor 14 2 1 8 1 ≡ fourteenOpening ∷ fourteenOrder ∷ fourteenPivots ∷ fourteenSeeds ∷ (244006229642219628 ∷ []) ∷ []
 unfolding drawnFor fourteenOpening fourteenOrder fourteenPivots fourteenSeeds opened
 fourteen-drawn = refl
 
-pub fourteen-medoid : medoid (between (space 14 2 fourteenVectors 0)) fourteenPivots 14 ≡ 8
+pub fourteen-medoid : medoid (between 2 fourteenVectors) fourteenPivots 14 ≡ 8
 unfolding fourteenVectors fourteenPivots opened
 fourteen-medoid = refl
 
@@ -287,7 +286,7 @@ pub fourteen-built : shown (buildOut fourteenCall) ≡ (0 ∷ []) ∷ fourteenWi
 unfolding shown buildCall fourteenVectors fourteenOrder fourteenSeeds fourteenOpening fourteenCall fourteenWide fourteenClosed opened
 fourteen-built = refl
 
-pub fourteen-search0 : pairs (answers (fromQuery (space 14 2 fourteenVectors 0) (113 ∷ 224 ∷ [])) (row 2 fourteenClosed) 14 4 8 4)
+pub fourteen-search0 : pairs (answers (fromQuery 2 fourteenVectors (113 ∷ 224 ∷ [])) (row 2 fourteenClosed) 14 4 8 4)
     ≡ 8 ∷ 11978 ∷ 12 ∷ 19720 ∷ 1 ∷ 27185 ∷ 4 ∷ 31012 ∷ []
 unfolding pairs fourteenVectors fourteenClosed opened
 fourteen-search0 = refl

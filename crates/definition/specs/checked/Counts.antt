@@ -18,7 +18,6 @@ roomCall words floats =
       n = 4;
       dim = 1;
       vectors = line;
-      metric = 0;
       degree = 2;
       beam = 2;
       k = 2;

@@ -24,7 +24,7 @@ unfolding add lt of_int of_bits mul div
     Lists.each Lists.keep Lists.place Lists.sort Lists.joined Lists.run Lists.upto Lists.isIn Lists.distinct Lists.onceOnly Lists.rising
     Lists.total Lists.groups Lists.over Lists.cleared
     Floats.nought Floats.one Floats.onePointTwo Floats.four Floats.largest Floats.larger Floats.smaller Floats.times Floats.divided Floats.above
-    Metric.gap Metric.saturated Metric.apart Metric.added Metric.summed Metric.metric Metric.vector Metric.fromQuery Metric.between Metric.whole
+    Metric.gap Metric.saturated Metric.squared Metric.summed Metric.metric Metric.vector Metric.fromQuery Metric.between Metric.whole
     Tables.pad Tables.row Tables.ids Tables.padded Tables.table_of Tables.onlyPad Tables.idsFirst Tables.buildRow Tables.buildRule Tables.searchRule
     Tables.cleaned
     Slack.slackFactor Slack.ceil Slack.slackByFloats Slack.slack
@@ -41,7 +41,7 @@ unfolding add lt of_int of_bits mul div
     Recall.nearest Recall.inBoth Recall.hits Recall.count_of
     Draws.advance Draws.drawn Draws.rowIds Draws.rowDrawn Draws.rows_from Draws.rowsDrawn Draws.firstFree Draws.seedsFrom Draws.seedsDrawn
     Draws.exchanged Draws.shuffled Draws.orderDrawn Draws.drawsBelow Draws.pivotsDrawn
-    Refusals.◌when◌else◌ Refusals.badDim Refusals.badCount Refusals.badVectors Refusals.badDegree Refusals.badBeam Refusals.badAlpha Refusals.badMetric
+    Refusals.◌when◌else◌ Refusals.badDim Refusals.badCount Refusals.badVectors Refusals.badDegree Refusals.badBeam Refusals.badAlpha
     Refusals.badStart Refusals.badExtra Refusals.goodGroup Refusals.badSeeds Refusals.badLength Refusals.badTable Refusals.badSearched
     Refusals.badNodes Refusals.bad_order Refusals.buildWords Refusals.buildFloats Refusals.searchWords Refusals.searchFloats Refusals.mostAnswers
     Refusals.short Refusals.badPivots Refusals.badK Refusals.badQueries Refusals.reportWords Refusals.reportFloats

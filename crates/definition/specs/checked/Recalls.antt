@@ -12,7 +12,7 @@ use Rattle.definition.specs.checked.Samples.{Sample, case, case₁, asWhole, fie
 
 unfoldable pub nearCall : List ℕ → List ℕ → ℕ → ℕ → ExhaustiveCall
 nearCall vectors query k room =
-    record { n = 4; dim = 1; vectors = vectors; metric = 0; k = k; query = query; ids = replicate room 7; dists = replicate room nought }
+    record { n = 4; dim = 1; vectors = vectors; k = k; query = query; ids = replicate room 7; dists = replicate room nought }
 
 -- the seven fields of the answer; then all words of the two outputs
 unfoldable pub toldNear : ExhaustiveOut → List (List ℕ)
@@ -32,7 +32,6 @@ reportCall vectors beam k queries =
       n = 4;
       dim = 1;
       vectors = vectors;
-      metric = 0;
       degree = 2;
       beam = beam;
       k = k;

@@ -3,7 +3,6 @@ use Rattle.std.specs.Prelude.{ℕ, List, [], ◌∷◌, map, ◌≡◌, refl, ta
 use Rattle.std.specs.Float.{binary32}
 use Rattle.std.specs.Float.Ieee.{of_bits, to_unsigned}
 use Rattle.definition.specs.declared.Answer.{Answer}
-use Rattle.definition.specs.checked.Spaces.{space}
 use Rattle.definition.specs.Metric.{between}
 use Rattle.definition.specs.Floats.{nought}
 use Rattle.definition.specs.Prune.{prune, measured}
@@ -24,7 +23,7 @@ fields a = a.number ∷ a.count ∷ a.id ∷ a.draw ∷ asWhole a.distance ∷ a
 -- ---- distance
 
 unfoldable pub distance_of : List ℕ → List ℕ → List ℕ
-distance_of a b = fields (distanceOut (record { first = a; second = b; metric = 0 }))
+distance_of a b = fields (distanceOut (record { first = a; second = b }))
 
 -- ---- the line
 
@@ -41,7 +40,6 @@ lineCall vectors query beam k =
       n = 4;
       dim = 1;
       vectors = vectors;
-      metric = 0;
       degree = 2;
       beam = beam;
       k = k;
@@ -64,9 +62,7 @@ lineSearch vectors query beam k = told (searchOut (lineCall vectors query beam k
 -- ---- pruning of node 0, all other entries its pool
 
 unfoldable pub pruned : List ℕ → List ℕ → ℕ → List ℕ
-pruned vectors others alphaBits =
-    let pair = between (space 4 2 vectors 0) in
-    prune pair 4 (of_bits binary32 alphaBits) 0 (measured (pair 0) others)
+pruned vectors others alphaBits = prune (between 2 vectors) 4 (of_bits binary32 alphaBits) 0 (measured (between 2 vectors 0) others)
 
 -- ---- the list
 
@@ -110,8 +106,8 @@ samples =
     -- pruning (0,0) with (10,0), (10,255), (0,30), alpha 1.2: the second lies at 0 of the first, and is shadowed
     case₁ (pruned (0 ∷ 0 ∷ 10 ∷ 0 ∷ 10 ∷ 255 ∷ 0 ∷ 30 ∷ []) (1 ∷ 2 ∷ 3 ∷ []) 0x3F99999A) (1 ∷ 3 ∷ []) ∷
     -- line, pivots 0, 3: scores and medoid
-    case₁ (map (λ i. asWhole (score (between (space 4 1 line 0)) (0 ∷ 3 ∷ []) i)) (0 ∷ 1 ∷ 2 ∷ 3 ∷ [])) (900 ∷ 500 ∷ 500 ∷ 900 ∷ []) ∷
-    case₁ (fields (medoidOut (record { n = 4; dim = 1; vectors = line; metric = 0; pivots = 0 ∷ 3 ∷ [] }))) (0 ∷ 0 ∷ 1 ∷ 0 ∷ 0 ∷ 0 ∷ 0 ∷ []) ∷
+    case₁ (map (λ i. asWhole (score (between 1 line) (0 ∷ 3 ∷ []) i)) (0 ∷ 1 ∷ 2 ∷ 3 ∷ [])) (900 ∷ 500 ∷ 500 ∷ 900 ∷ []) ∷
+    case₁ (fields (medoidOut (record { n = 4; dim = 1; vectors = line; pivots = 0 ∷ 3 ∷ [] }))) (0 ∷ 0 ∷ 1 ∷ 0 ∷ 0 ∷ 0 ∷ 0 ∷ []) ∷
     -- generator state 0: first draw below 100
     case₁ (fields (drawOut 100 0).answer) (0 ∷ 0 ∷ 0 ∷ 7 ∷ 0 ∷ 0 ∷ 0 ∷ []) ∷
     []
@@ -129,7 +125,7 @@ lone extra seeds alphaBits =
       n = 1;
       dim = 1;
       vectors = 9 ∷ [];
-      params = record { degree = 2; beam = 4; alpha = of_bits binary32 alphaBits; metric = 0; extra = extra };
+      params = record { degree = 2; beam = 4; alpha = of_bits binary32 alphaBits; extra = extra };
       start = 0;
       order = 0 ∷ [];
       seeds = seeds;

@@ -22,7 +22,6 @@ tieCall beam =
       n = 4;
       dim = 1;
       vectors = besides;
-      metric = 0;
       degree = 2;
       beam = beam;
       k = beam;

@@ -26,7 +26,7 @@ use Rattle.fjalgrout.proofs.fjalgrout_records.Code as code
 abbrev params : Lfts 8 → List Param
 params κs =
     let at : (j : ℕ) → Within 8 j → NamedLft = λ j ok. named_lft 8 j ok κs in
-    a-usize ∷ a-usize ∷ a_slice (at 0 tt) u8 tt ∷ a-u32 ∷ a-usize ∷ a-usize ∷ a-usize ∷ a-u32 ∷ a_slice (at 1 tt) u32 tt ∷ a_slice (at 2 tt) u8 tt
+    a-usize ∷ a-usize ∷ a_slice (at 0 tt) u8 tt ∷ a-usize ∷ a-usize ∷ a-usize ∷ a-u32 ∷ a_slice (at 1 tt) u32 tt ∷ a_slice (at 2 tt) u8 tt
     ∷ a-mut-slice (at 3 tt) u32 tt ∷ a-mut-slice (at 4 tt) f32 tt ∷ a-mut-slice (at 5 tt) u32 tt ∷ a-mut-slice (at 6 tt) f32 tt
     ∷ a-mut-slice (at 7 tt) Candidate.the_row tt ∷ []
 

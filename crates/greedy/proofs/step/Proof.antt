@@ -24,7 +24,7 @@ fits : (c : tie.After-shared-slice-known3)
     (a.id * a.p.width + a.p.width ≤ length a.table.now) × (length a.table.now ≤ 8388608)
 fits c =
     let s = c.before.before.before.before.before.before.before in
-    row_in s.requires.1.1.0 s.requires.0.roomy.nodes s.args.id s.requires.1.1.1.0
+    row_in s.requires.1.1.0 s.requires.0.space.nodes s.args.id s.requires.1.1.1.0
 
 mul-from : tie.Need-overflow-mul-from
 mul-from c = omega (arith, fits c)

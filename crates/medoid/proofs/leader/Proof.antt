@@ -5,18 +5,15 @@ use native.Mathlib.Omega.{arith}
 use borrow.Author.Rules.{rules}
 use Rattle.definition.specs.Metric.{between}
 use Rattle.definition.specs.Medoid.{score, medoid}
-use Rattle.metric.specs.Exact.{space}
 use Rattle.medoid.specs.Turns.{Leading, lead-start, lead-taken, lead-kept, lead-end}
 use Rattle.medoid.proofs.leader.Statement.{statement}
 use Rattle.medoid.proofs.leader.Tie as tie
 
 abbrev invariant-loop : tie.invariant-loop
-invariant-loop g vectors pivots id₀ least₀ i₀ id least i =
-    let pair = between (space g vectors) in
-    Leading (score pair pivots) (medoid pair pivots g.n) g.n id least i
+invariant-loop n dim vectors pivots id₀ least₀ i₀ id least i = Leading (score (between dim vectors) pivots) (medoid (between dim vectors) pivots n) n id least i
 
 abbrev decreases-loop : tie.decreases-loop
-decreases-loop g vectors pivots id₀ least₀ i₀ id least i = g.n - i
+decreases-loop n dim vectors pivots id₀ least₀ i₀ id least i = n - i
 
 score-requires : tie.Need-score-requires invariant-loop decreases-loop
 score-requires c κs = search rules
@@ -35,17 +32,15 @@ loop-less c = omega arith
 
 loop-again : tie.Need-loop-preserved invariant-loop decreases-loop
 loop-again c =
-    let more = c.before.before.if1.true in
-    let leads = c.before.before.before.before.loop.invariant in
+    let more = c.before.before.loop-test.true in
+    let leads = c.before.before.before.loop.invariant in
     ⊎_elim
     (λ w. rw (w.1, w.2) (lead-taken _ _ _ _ _ _ _ more c.before.score2.ensures leads w.0.taken))
     (λ w. rw (w.1, w.2) (lead-kept _ _ _ _ _ _ _ more c.before.score2.ensures leads w.0.left))
-    c.if2.branch
+    c.if1.branch
 
 returns : tie.Need-returns invariant-loop decreases-loop
-returns c =
-    let leads = c.before.before.loop.invariant in
-    (lead-end _ _ _ _ _ _ c.if1.false leads, leads.inside)
+returns c = (lead-end _ _ _ _ _ _ c.loop-test.false c.before.loop.invariant, c.before.loop.invariant.inside)
 
 pub leader-spec : {M : Type 1} → statement M
 leader-spec =

@@ -14,20 +14,14 @@ use Rattle.medoid.proofs.medoid.Tie as tie
 
 -- the call
 abbrev asked : tie.Start → MedoidCall
-asked s =
-    let a = s.args in
-    record { n = a.n; dim = a.dim; vectors = a.vectors.now; metric = a.metric; pivots = a.pivots.now }
+asked s = record { n = s.args.n; dim = s.args.dim; vectors = s.args.vectors.now; pivots = s.args.pivots.now }
 
 abbrev start : tie.Else1 → tie.Start
 start c = c.before.before.before.before
 
--- its number
-number : (n : tie.After-medoid-number) → n.medoid-number.result ≡ medoidNumber (asked n.before.before.before)
-number n = n.medoid-number.ensures.is
-
 -- one that is not refused
 none : (c : tie.Else1) → medoidNumber (asked (start c)) ≡ 0
-none c = sym (number c.before) ∙ c.if1.false
+none c = sym c.before.medoid-number.ensures.is ∙ c.if1.false
 
 accepted : (c : tie.Else1) → MedoidAccepted (asked (start c))
 accepted c = medoid-accepted (asked (start c)) (none c)
@@ -40,10 +34,7 @@ refused-requires c κs = search rules
 
 returns : tie.Need-returns
 unfolding medoidOut
-returns c =
-    let some = c.before.if1.true in
-    let n = c.before.before in
-    c.refused.ensures ∙ refused-is (medoidNumber (asked n.before.before.before)) _ _ (omega arith) (sym (number n))
+returns c = let some = c.before.if1.true in c.refused.ensures ∙ refused-is _ _ _ (omega arith) (sym c.before.before.medoid-number.ensures.is)
 
 leader-requires : tie.Need-leader-requires
 leader-requires c κs =

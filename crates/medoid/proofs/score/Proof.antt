@@ -7,18 +7,16 @@ use lib.ListN.{length, drop}
 use Rattle.definition.specs.Metric.{between, whole}
 use Rattle.definition.specs.Medoid.{scoreFrom, score}
 use Rattle.definition.specs.Floats.{nought}
-use Rattle.metric.specs.Exact.{space}
 use Rattle.metric.specs.Laws.{exact-in-float, vector-in}
 use Rattle.medoid.specs.Turns.{score-start, score-turn, score-end}
 use Rattle.medoid.proofs.score.Statement.{statement}
 use Rattle.medoid.proofs.score.Tie as tie
 
 abbrev invariant-loop : tie.invariant-loop
-invariant-loop g vectors pivots i total₀ j₀ total j =
-    scoreFrom (between (space g vectors) i) total (drop j pivots) ≡ score (between (space g vectors)) pivots i
+invariant-loop n dim vectors pivots i total₀ j₀ total j = scoreFrom (between dim vectors i) total (drop j pivots) ≡ score (between dim vectors) pivots i
 
 abbrev decreases-loop : tie.decreases-loop
-decreases-loop g vectors pivots i total₀ j₀ total j = length pivots - j
+decreases-loop n dim vectors pivots i total₀ j₀ total j = length pivots - j
 
 loop-holds : tie.Need-loop-init invariant-loop decreases-loop
 unfolding nought
@@ -36,7 +34,7 @@ cast-p c = record { fits = omega (arith, (c.shared-slice-known3.given c.before.b
 between-requires : tie.Need-between-requires invariant-loop decreases-loop
 between-requires c κs =
     let p = c.before.before.before.before.before.requires in
-    (vector-in _ _ p.1 p.2, (vector-in _ _ p.1 (p.3 _ c.before.loop-test.true), p.0))
+    (vector-in _ _ _ _ p.1 p.2, (vector-in _ _ _ _ p.1 (p.3 _ c.before.loop-test.true), p.0))
 
 int-to-float-total : tie.Need-int-to-float-total invariant-loop decreases-loop
 int-to-float-total c = exact-in-float _ _ c.before.between.ensures

@@ -4,7 +4,7 @@ use Prim.Native.Nat.{ℕ}
 use Rattle.definition.specs.Metric.{whole}
 use Rattle.definition.specs.Outcome.{answer}
 use Rattle.metric.specs.Laws.{exact-in-float}
-use Rattle.metric.specs.Cases.{distance_none, distance-long, distance-unknown, distance-unequal, distance-done}
+use Rattle.metric.specs.Cases.{distance_none, distance-long, distance-unequal, distance-done}
 use borrow.Author.Rules.{rules}
 use Rattle.metric.proofs.distance.Statement.{statement}
 use Rattle.metric.proofs.distance.Tie as tie
@@ -18,29 +18,19 @@ refused-requires : tie.Need-refused-requires
 refused-requires c κs = search rules
 
 returns : tie.Need-returns
-returns c = c.refused.ensures ∙ sym (distance_none _ _ _ c.before.if1.true)
+returns c = c.refused.ensures ∙ sym (distance_none _ _ c.before.if1.true)
 
 refused-requires-2 : tie.Need-refused-requires-2
 refused-requires-2 c κs = search rules
 
 returns-2 : tie.Need-returns-2
-returns-2 c = c.refused2.ensures ∙ sym (distance-long _ _ _ c.before.if2.true)
+returns-2 c = c.refused2.ensures ∙ sym (distance-long _ _ c.before.if2.true)
 
 refused-requires-3 : tie.Need-refused-requires-3
 refused-requires-3 c κs = search rules
 
 returns-3 : tie.Need-returns-3
-returns-3 c =
-    let s = c.before.before in
-    c.refused3.ensures ∙ sym (distance-unknown _ _ _ s.before.if1.false s.if2.false c.before.if3.true)
-
-refused-requires-4 : tie.Need-refused-requires-4
-refused-requires-4 c κs = search rules
-
-returns-4 : tie.Need-returns-4
-returns-4 c =
-    let s = c.before.before in
-    c.refused4.ensures ∙ sym (distance-unequal _ _ _ s.before.before.if1.false s.before.if2.false s.if3.false c.before.if4.true)
+returns-3 c = c.refused3.ensures ∙ sym (distance-unequal _ _ c.before.before.before.if1.false c.before.before.if2.false c.before.if3.true)
 
 summed-requires : tie.Need-summed-requires
 summed-requires c κs = search rules
@@ -51,13 +41,12 @@ int-to-float-measured c = exact-in-float _ _ c.before.summed.ensures
 measured-requires : tie.Need-measured-requires
 measured-requires c κs = search rules
 
-returns-5 : tie.Need-returns-5
+returns-4 : tie.Need-returns-4
 unfolding whole
-returns-5 c =
+returns-4 c =
     let s = c.before.before in
-    let t = s.before.before in
     c.measured.ensures ∙ ap (λ (n : ℕ). answer 0 0 0 0 (whole n)) s.summed.ensures.is
-    ∙ sym (distance-done _ _ _ t.before.before.if1.false t.before.if2.false t.if3.false s.before.if4.false)
+    ∙ sym (distance-done _ _ s.before.before.before.if1.false s.before.before.if2.false s.before.if3.false)
 
 pub distance-spec : {M : Type 1} → statement M
 distance-spec =
@@ -69,9 +58,7 @@ distance-spec =
     returns-2
     refused-requires-3
     returns-3
-    refused-requires-4
-    returns-4
     summed-requires
     int-to-float-measured
     measured-requires
-    returns-5)
+    returns-4)

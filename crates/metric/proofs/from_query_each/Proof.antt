@@ -1,39 +1,86 @@
--- `from_query_each` meets its contract: whichever metric it is, the loop has it as a constant. Assumes nothing.
+-- `metric::from_query_each` meets its contract. The loop's invariant: the distances of the entries passed so far are written. Assumes nothing.
+use Prim.Native.Nat.{ℕ, ◌-◌}
+use native.Mathlib.Omega.{arith}
+use lib.ListN.{length}
 use borrow.Author.Rules.{rules}
-use Rattle.metric.specs.Exact.{space}
-use Rattle.metric.specs.Laws.{squared-each, absolute-each}
+use Rattle.definition.specs.Metric.{fromQuery}
+use Rattle.metric.proofs.Each.{Measured, measured-none, measured-more, measured-all}
 use Rattle.metric.proofs.from_query_each.Statement.{statement}
 use Rattle.metric.proofs.from_query_each.Tie as tie
+use Rattle.metric.proofs.from_query_each.Reads as reads
+use Rattle.metric.proofs.from_query_each.Lts as lts
+use Rattle.metric.proofs.from_query.Reads as from-query-reads
 
-measure-each-requires : tie.Need-measure-each-requires
-measure-each-requires c κs =
-    let s = c.before.before.before.before.before.before.before in
-    (λ j h. record { reach = (s.requires.0 j h).reach }, s.requires.1)
+abbrev invariant-loop : tie.invariant-loop
+invariant-loop dim vectors query ids dists₀ k₀ dists k = Measured (fromQuery dim vectors query) ids dists k
 
-same_length : tie.Need-same-length
+abbrev decreases-loop : tie.decreases-loop
+decreases-loop dim vectors query ids dists₀ k₀ dists k = length ids - k
+
+-- how far an entry is from the query
+abbrev far : tie.Start invariant-loop decreases-loop → ℕ → ℕ
+far s = fromQuery s.args.dim s.args.vectors.now s.args.query.now
+
+loop-holds : tie.Need-loop-init invariant-loop decreases-loop
+loop-holds c = let s = c.before.before.before.before in measured-none (far s) _ _ s.requires.1.1
+
+mul-from-query : tie.Need-overflow-mul-from-query invariant-loop decreases-loop
+mul-from-query c = search rules
+
+shared-slice-read-from-query : tie.Need-shared-slice-read-from-query invariant-loop decreases-loop
+shared-slice-read-from-query c = search rules
+
+cast-from-query : tie.Need-overflow-cast-from-query invariant-loop decreases-loop
+cast-from-query c = omega (arith, c.shared-slice-known4.given c.before.before.loop.k)
+
+from-query-requires : tie.Need-from-query-requires invariant-loop decreases-loop
+from-query-requires c κs =
+    let l = c.before.before in
+    let s = l.before.before.before.before.before in
+    (s.requires.0 l.loop.k (omega arith), s.requires.1.0)
+
+mul-dists : tie.Need-overflow-mul-dists invariant-loop decreases-loop
+mul-dists c = search rules
+
+slice-write-dists : tie.Need-slice-write-dists invariant-loop decreases-loop
+slice-write-dists c = search rules
+
+add-k : tie.Need-overflow-add-k invariant-loop decreases-loop
+add-k c = search rules
+
+loop-less : tie.Need-loop-smaller invariant-loop decreases-loop
+loop-less c = omega arith
+
+loop-again : tie.Need-loop-preserved invariant-loop decreases-loop
+loop-again c =
+    let l = c.before.before.before in
+    let s = l.before.before.before.before.before in
+    measured-more (far s) _ _ l.loop.k l.loop.invariant (omega arith) _ c.from-query.ensures
+
+same_length : tie.Need-same-length invariant-loop decreases-loop
 same_length c = search rules
 
-returns : tie.Need-returns
+returns : tie.Need-returns invariant-loop decreases-loop
 returns c =
-    let m = c.before.before in
-    let t = m.before.before in
-    let a = t.before.before.before.before.before.before.args in
-    squared-each (space a.g a.vectors.now) a.query.now _ _ t.if1.true m.measure-each.ensures
-
-measure-each-requires-2 : tie.Need-measure-each-requires-2
-measure-each-requires-2 c κs =
-    let s = c.before.before.before.before.before.before.before in
-    (λ j h. record { reach = (s.requires.0 j h).reach }, s.requires.1)
-
-same-length-2 : tie.Need-same-length-2
-same-length-2 c = search rules
-
-returns-2 : tie.Need-returns-2
-returns-2 c =
-    let m = c.before.before in
-    let t = m.before.before in
-    let a = t.before.before.before.before.before.before.args in
-    absolute-each (space a.g a.vectors.now) a.query.now _ _ t.if1.false m.measure-each2.ensures
+    let l = c.before in
+    let s = l.before.before.before.before.before in
+    measured-all (far s) _ _ l.loop.k l.loop.invariant (omega arith)
 
 pub from-query-each-spec : {M : Type 1} → statement M
-from-query-each-spec = tie.close (tie.spec measure-each-requires same_length returns measure-each-requires-2 same-length-2 returns-2)
+from-query-each-spec =
+    tie.close
+    (tie.spec
+    invariant-loop
+    decreases-loop
+    loop-holds
+    mul-from-query
+    shared-slice-read-from-query
+    cast-from-query
+    from-query-requires
+    mul-dists
+    slice-write-dists
+    add-k
+    loop-less
+    loop-again
+    same_length
+    returns)

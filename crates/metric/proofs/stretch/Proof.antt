@@ -1,24 +1,48 @@
--- `stretch` meets its contract: the number chooses the kernel. Assumes nothing.
-use mathlib.Core.Path.{sym, subst}
-use Prim.Native.Nat.{ℕ}
+-- `metric::stretch` meets its contract: the sixteens, and with a rest that too, are what its samples add. Assumes nothing.
+use mathlib.Core.Path.{subst}
+use Prim.Native.Nat.{ℕ, ◌+◌, ◌-◌, ◌%◌}
+use native.Mathlib.Omega.{arith}
 use borrow.Author.Rules.{rules}
-use Rattle.metric_samples.specs.Stretches.{Adds, adds-absolute}
+use Rattle.metric.specs.Stretches.{Adds, adds-join, adds-small}
 use Rattle.metric.proofs.stretch.Statement.{statement}
 use Rattle.metric.proofs.stretch.Tie as tie
 
-stretch-requires : tie.Need-stretch-requires
-stretch-requires c κs = search rules
+sub-end : tie.Need-overflow-sub-end
+sub-end c = search rules
+
+sub-end-2 : tie.Need-overflow-sub-end-2
+sub-end-2 c = search rules
+
+sixteens-requires : tie.Need-sixteens-requires
+sixteens-requires c κs = (search rules, omega arith)
 
 returns : tie.Need-returns
 returns c =
-    let a = c.before.before.before.before.args in
-    subst (λ (m : ℕ). Adds m a.a.now a.b.now a.from a.to c.stretch.result) (sym c.before.if1.true) c.stretch.ensures
+    let s = c.before.before.before.before in
+    subst (λ (end : ℕ). Adds s.args.a.now s.args.b.now s.args.from end c.before.sixteens.result) c.if1.true
+    c.before.sixteens.ensures
 
-stretch-requires-2 : tie.Need-stretch-requires-2
-stretch-requires-2 c κs = search rules
+rest-requires : tie.Need-rest-requires
+rest-requires c κs = search rules
+
+-- the sixteens and the rest
+all : (c : tie.After-rest) → let s = c.before.before.before.before.before in
+    Adds s.args.a.now s.args.b.now s.args.from s.args.to (c.before.before.sixteens.result + c.rest.result)
+all c =
+    let s = c.before.before.before.before.before in
+    adds-join _ _ s.args.from (s.args.to - (s.args.to - s.args.from) % 16) s.args.to _ _ c.before.before.sixteens.ensures c.rest.ensures
+
+add-result : tie.Need-overflow-add-result
+add-result c =
+    let known = c.before.before.before in
+    omega (
+      arith,
+      adds-small _ _ _ _ _ (λ k. (known.before.shared-slice-known.given k).fits) (λ k. (known.shared-slice-known2.given k).fits)
+          known.before.before.requires.few (all c),
+    )
 
 returns-2 : tie.Need-returns-2
-returns-2 c = adds-absolute _ _ _ _ _ _ c.before.if1.false c.stretch2.ensures
+returns-2 c = all c
 
 pub stretch-spec : {M : Type 1} → statement M
-stretch-spec = tie.close (tie.spec stretch-requires returns stretch-requires-2 returns-2)
+stretch-spec = tie.close (tie.spec sub-end sub-end-2 sixteens-requires returns rest-requires add-result returns-2)

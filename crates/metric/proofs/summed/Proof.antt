@@ -1,9 +1,9 @@
--- `summed` meets its contract: what all samples add is the distance. Assumes nothing.
+-- `metric::summed` meets its contract: what all samples add is the distance. Assumes nothing.
 use mathlib.Core.Path.{subst}
 use Prim.Native.Nat.{ℕ, ◌≤◌}
 use borrow.Author.Rules.{rules}
 use Rattle.whole.specs.Whole.{farthest}
-use Rattle.metric_samples.specs.Stretches.{adds-all, adds-small}
+use Rattle.metric.specs.Stretches.{adds-all, adds-small}
 use Rattle.metric.proofs.summed.Statement.{statement}
 use Rattle.metric.proofs.summed.Tie as tie
 
@@ -13,9 +13,9 @@ stretch-requires c κs = search rules
 returns : tie.Need-returns
 returns c =
     let known = c.before in
-    let is = adds-all _ _ _ _ c.stretch.ensures in
+    let is = adds-all _ _ _ c.stretch.ensures in
     let small =
-    adds-small _ _ _ _ _ _ (λ k. (known.before.shared-slice-known.given k).fits) (λ k. (known.shared-slice-known2.given k).fits)
+    adds-small _ _ _ _ _ (λ k. (known.before.shared-slice-known.given k).fits) (λ k. (known.shared-slice-known2.given k).fits)
     known.before.before.requires.1 c.stretch.ensures in
     record { is = is; small = subst (λ (n : ℕ). n ≤ farthest) is small }
 

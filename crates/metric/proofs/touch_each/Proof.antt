@@ -4,25 +4,25 @@ use Prim.Native.Nat.{ℕ, ◌+◌, ◌-◌, ◌*◌}
 use native.Mathlib.Omega.{arith}
 use lib.ListN.{length, get_or, length-set}
 use borrow.Author.Rules.{rules}
-use Rattle.metric.specs.Exact.{space, VectorIn}
+use Rattle.metric.specs.Exact.{VectorIn}
 use Rattle.metric.proofs.touch_each.Statement.{statement}
 use Rattle.metric.proofs.touch_each.Tie as tie
 
 abbrev invariant-loop : tie.invariant-loop
-invariant-loop g vectors ids out₀ j₀ out j = length ids ≡ length out
+invariant-loop dim vectors ids out₀ j₀ out j = length ids ≡ length out
 
 abbrev decreases-loop : tie.decreases-loop
-decreases-loop g vectors ids out₀ j₀ out j = length ids - j
+decreases-loop dim vectors ids out₀ j₀ out j = length ids - j
 
 -- where the entry of this turn begins
 abbrev first : tie.After-shared-slice-known invariant-loop decreases-loop → ℕ
-first c = let l = c.before.before in get_or l.before.before.args.ids.now l.loop.j 0 * l.before.before.args.g.dim
+first c = let l = c.before.before in get_or l.before.before.args.ids.now l.loop.j 0 * l.before.before.args.dim
 
 -- its vector
 vector-in : (c : tie.After-shared-slice-known invariant-loop decreases-loop)
     → let l = c.before.before in
     let a = l.before.before.args in
-    VectorIn (space a.g a.vectors.now) (get_or a.ids.now l.loop.j 0)
+    VectorIn a.dim a.vectors.now (get_or a.ids.now l.loop.j 0)
 vector-in c = let l = c.before.before in l.before.before.requires.0 l.loop.j (omega arith)
 
 returns : tie.Need-returns invariant-loop decreases-loop
@@ -59,13 +59,13 @@ shared-slice-read-out-2 : tie.Need-shared-slice-read-out-2 invariant-loop decrea
 shared-slice-read-out-2 c = omega (arith, (vector-in c.before.before).reach)
 
 cast-out-2 : tie.Need-overflow-cast-out-2 invariant-loop decreases-loop
-cast-out-2 c = let k = c.before.before in omega (arith, c.shared-slice-known3.given (first k + k.before.before.before.before.args.g.dim - 1))
+cast-out-2 c = let k = c.before.before in omega (arith, c.shared-slice-known3.given (first k + k.before.before.before.before.args.dim - 1))
 
 add-out : tie.Need-overflow-add-out invariant-loop decreases-loop
 add-out c =
     let k = c.before.before in
     let given = c.shared-slice-known3.given in
-    omega (arith, given (first k), given (first k + k.before.before.before.before.args.g.dim - 1))
+    omega (arith, given (first k), given (first k + k.before.before.before.before.args.dim - 1))
 
 mul-out : tie.Need-overflow-mul-out invariant-loop decreases-loop
 mul-out c = search rules

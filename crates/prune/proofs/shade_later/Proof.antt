@@ -1,6 +1,5 @@
 -- `shade_later` meets its contract. The part lent as the query is the taken entry's vector.
 use borrow.Author.Rules.{rules}
-use Rattle.metric.specs.Exact.{space}
 use Rattle.metric.specs.Laws.{lent-vector, lent_length}
 use Rattle.prune.proofs.shade_later.Statement.{statement}
 use Rattle.prune.proofs.shade_later.Tie as tie
@@ -22,8 +21,8 @@ part-shade-rest-end c = search rules
 
 shade-rest-requires : tie.Need-shade-rest-requires
 shade-rest-requires c κs =
-    let s = c.before.before.before.before.before.before.before.before in
-    (s.requires.0, (s.requires.1.0.0, s.requires.1.0.1, lent_length _ _ s.requires.1.1))
+    let s = c.before.before.before.before.before.before in
+    (s.requires.0, (s.requires.1.0.0, s.requires.1.0.1, lent_length _ _ _ s.requires.1.1))
 
 same_length : tie.Need-same-length
 same_length c = search rules
@@ -31,8 +30,8 @@ same_length c = search rules
 returns : tie.Need-returns
 returns c =
     let rest = c.before.before in
-    let s = rest.before.before.before.before.before.before.before.before.before in
-    rest.shade-rest.ensures.are s.args.taken (lent-vector (space s.args.g s.args.vectors.now) s.args.taken)
+    let s = rest.before.before.before.before.before.before.before in
+    rest.shade-rest.ensures.are s.args.taken (lent-vector _ _ _)
 
 pub shade-later-spec : {M : Type 1} → statement M
 shade-later-spec =

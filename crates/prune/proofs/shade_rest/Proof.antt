@@ -9,16 +9,16 @@ use borrow.Author.Tests.{not-true, not-false}
 use Rattle.prune.proofs.Shading.{Shading, shading-start, shading-raise, shading-skip, shading-end}
 use Rattle.laws.specs.All.{all-at}
 use Rattle.whole.specs.Whole.{limit}
-use Rattle.metric.specs.Exact.{space, VectorIn}
+use Rattle.metric.specs.Exact.{VectorIn}
 use Rattle.prune.proofs.shade_rest.Statement.{statement}
 use Rattle.prune.proofs.shade_rest.Tie as tie
 
 abbrev invariant-loop : tie.invariant-loop
-invariant-loop g vectors query ids dists factors₀ from target m j₀ factors j =
-    Shading (space g vectors) query ids dists target from factors₀ factors j
+invariant-loop vectors dim query ids dists factors₀ from target m j₀ factors j =
+    Shading dim vectors query ids dists target from factors₀ factors j
 
 abbrev decreases-loop : tie.decreases-loop
-decreases-loop g vectors query ids dists factors₀ from target m j₀ factors j = length ids - j
+decreases-loop vectors dim query ids dists factors₀ from target m j₀ factors j = length ids - j
 
 loop-holds : tie.Need-loop-init invariant-loop decreases-loop
 loop-holds c = shading-start (omega arith) (omega arith)
@@ -42,7 +42,7 @@ from-query-requires : tie.Need-from-query-requires invariant-loop decreases-loop
 from-query-requires c κs =
     let turn = c.before.before.before.before.before in
     let s = turn.before.before.before.before.before.before in
-    let In = VectorIn (space s.args.g s.args.vectors.now) in
+    let In = VectorIn s.args.dim s.args.vectors.now in
     (subst In (sym c.index_of.ensures) (all-at In 0 s.args.ids.now s.requires.0.rows turn.loop.j (omega arith)), (s.requires.1.2, s.requires.0.narrow))
 
 mul-raised : tie.Need-overflow-mul-raised invariant-loop decreases-loop

@@ -5,7 +5,7 @@ use Prim.Native.Nat.{◌-◌, ◌<◌}
 use native.Mathlib.Omega.{arith}
 use lib.ListN.{length, length-set}
 use Rattle.laws.specs.All.{all-at}
-use Rattle.metric.specs.Exact.{space, VectorIn}
+use Rattle.metric.specs.Exact.{VectorIn}
 use Rattle.prune.specs.Says.{roundsOf}
 use Rattle.definition.specs.Floats.{largest}
 use Rattle.prune.proofs.Steps.{fromRound, Walk, Going, walk_same, going-first, walk-skip, walk-take, walk_first, full, last-round, reached, again}
@@ -15,20 +15,20 @@ use Rattle.prune.proofs.take_rounds.Statement.{statement}
 use Rattle.prune.proofs.take_rounds.Tie as tie
 
 abbrev invariant-loop : tie.invariant-loop
-invariant-loop g vectors ids dists factors₀ row₀ degree alpha m target current count₀ round i₀ factors row count i =
-    Walk (space g vectors) ids dists target (8 - round) current degree (fromRound (space g vectors) ids dists target current degree round factors₀ row₀ count₀)
+invariant-loop vectors dim ids dists factors₀ row₀ degree alpha m target current count₀ round i₀ factors row count i =
+    Walk dim vectors ids dists target (8 - round) current degree (fromRound dim vectors ids dists target current degree round factors₀ row₀ count₀)
     (length row₀) factors row count i
 
 abbrev decreases-loop : tie.decreases-loop
-decreases-loop g vectors ids dists factors₀ row₀ degree alpha m target current count₀ round i₀ factors row count i =
+decreases-loop vectors dim ids dists factors₀ row₀ degree alpha m target current count₀ round i₀ factors row count i =
     length ids - i
 
 abbrev invariant-rounds : tie.invariant-rounds
-invariant-rounds g vectors ids dists factors₀ row₀ degree alpha m target current₀ count₀ round₀ factors row current count round =
-    Going (space g vectors) ids dists target degree (roundsOf (space g vectors) ids dists degree alpha factors₀) (length row₀) factors row current count round
+invariant-rounds vectors dim ids dists factors₀ row₀ degree alpha m target current₀ count₀ round₀ factors row current count round =
+    Going dim vectors ids dists target degree (roundsOf dim vectors ids dists degree alpha factors₀) (length row₀) factors row current count round
 
 abbrev decreases-rounds : tie.decreases-rounds
-decreases-rounds g vectors ids dists factors₀ row₀ degree alpha m target current₀ count₀ round₀ factors row current count round =
+decreases-rounds vectors dim ids dists factors₀ row₀ degree alpha m target current₀ count₀ round₀ factors row current count round =
     9 - round
 
 target-of-requires : tie.Need-target-of-requires invariant-loop decreases-loop invariant-rounds decreases-rounds
@@ -80,7 +80,7 @@ shade-later-requires c κs =
     let turn = c.before.before.before.before.before.before.before in
     let l = turn.loop in
     let s = turn.before.before.before.before.before.before.before.before in
-    let In = VectorIn (space s.args.g s.args.vectors.now) in (
+    let In = VectorIn s.args.dim s.args.vectors.now in (
       s.requires.0,
       (
         (length-set l.factors l.i _ ∙ l.invariant.nf, omega arith),

@@ -3,7 +3,6 @@ use mathlib.Core.Path.{ap, ◌∙◌}
 use Prim.Native.Nat.{ℕ}
 use lib.ListN.{replicate}
 use Rattle.definition.specs.Floats.{nought}
-use Rattle.metric.specs.Exact.{space}
 use Rattle.prune.proofs.Filling.{written}
 use borrow.Author.Rules.{rules}
 use Rattle.prune.proofs.write_pruned.Statement.{statement}
@@ -33,7 +32,7 @@ returns c =
     let s = cleared.before.before.before.before.before.before.before in
     let a = s.args in
     let zeros = cleared.clear-floats.ensures ∙ ap (λ (n : ℕ). replicate n nought) s.requires.1.0 in
-    written (space a.g a.vectors.now) a.ids.now a.dists.now a.degree a.alpha _ _ s.requires.0.same s.requires.1.1
+    written a.dim a.vectors.now a.ids.now a.dists.now a.degree a.alpha _ _ s.requires.0.same s.requires.1.1
     rounds.take-rounds.auto.1.1.1.1.1.0 zeros rounds.take-rounds.ensures padded.pad-from.ensures
 
 pub write-pruned-spec : {M : Type 1} → statement M

@@ -1,6 +1,5 @@
 -- `measure` meets its contract. The part lent as the query is the node's vector.
 use Rattle.definition.specs.Metric.{fromQuery, between}
-use Rattle.metric.specs.Exact.{space}
 use Rattle.metric.specs.Laws.{lent-vector}
 use borrow.Author.Rules.{rules}
 use Rattle.prune_fit.proofs.measure.Statement.{statement}
@@ -34,8 +33,8 @@ returns : tie.Need-returns
 unfolding between fromQuery
 returns c =
     let each = c.before.before in
-    let s = each.before.before.before.before.before.before.before.before in
-    rw (lent-vector (space s.args.g s.args.vectors.now) s.args.node) at each.from-query-each.ensures
+    let s = each.before.before.before.before.before.before in
+    rw (lent-vector s.args.dim s.args.vectors.now s.args.node) at each.from-query-each.ensures
 
 pub measure-spec : {M : Type 1} → statement M
 measure-spec =

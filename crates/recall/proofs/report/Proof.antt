@@ -13,7 +13,6 @@ asked s =
       n = a.n;
       dim = a.dim;
       vectors = a.vectors.now;
-      metric = a.metric;
       degree = a.degree;
       beam = a.beam;
       k = a.k;

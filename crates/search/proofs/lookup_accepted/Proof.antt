@@ -12,7 +12,7 @@ use Rattle.search.proofs.lookup_accepted.Tie as tie
 abbrev asked : tie.Start → SearchCall
 asked s =
     let a = s.args in
-    cleanedCall (call_of a.n a.dim a.vectors.now a.metric a.degree a.beam a.k a.start a.table.now a.query.now
+    cleanedCall (call_of a.n a.dim a.vectors.now a.degree a.beam a.k a.start a.table.now a.query.now
     a.words.now a.floats.now a.ids.now a.dists.now)
 
 -- back to the entry from the cleared marks, and to these from the walk

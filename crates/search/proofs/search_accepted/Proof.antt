@@ -10,7 +10,7 @@ use Rattle.search.proofs.search_accepted.Tie as tie
 abbrev asked : tie.Start → SearchCall
 asked s =
     let a = s.args in
-    call_of a.n a.dim a.vectors.now a.metric a.degree a.beam a.k a.start a.table.now a.query.now
+    call_of a.n a.dim a.vectors.now a.degree a.beam a.k a.start a.table.now a.query.now
     a.words.now a.floats.now a.ids.now a.dists.now
 
 lookup-accepted-requires : tie.Need-lookup-accepted-requires

@@ -88,7 +88,7 @@ at j ok κs = named_lft 8 j ok κs
 
 abbrev reads : Lfts 8 → List Param
 reads κs =
-    a-usize ∷ a-usize ∷ a_slice (at 0 tt κs) u8 tt ∷ a-u32 ∷ a-usize ∷ a-usize ∷ a-usize ∷ a-u32 ∷ a_slice (at 1 tt κs) u32 tt ∷ a_slice (at 2 tt κs) u8 tt ∷ []
+    a-usize ∷ a-usize ∷ a_slice (at 0 tt κs) u8 tt ∷ a-usize ∷ a-usize ∷ a-usize ∷ a-u32 ∷ a_slice (at 1 tt κs) u32 tt ∷ a_slice (at 2 tt κs) u8 tt ∷ []
 
 abbrev searched : Lfts 8 → List Param
 searched κs = a-mut-slice (at 3 tt κs) u32 tt ∷ a-mut-slice (at 4 tt κs) f32 tt ∷ a-mut-slice (at 5 tt κs) u32 tt ∷ a-mut-slice (at 6 tt κs) f32 tt ∷ []
@@ -98,7 +98,7 @@ copyable-last κs = (LL.u32-copy, (LL.shr_slice_copy (at 1 tt κs) u32 tt, (LL.s
 
 abbrev copyable : (κs : Lfts 8) → LL.Copyables (fields (reads κs))
 copyable κs =
-    (LL.usize-copy, (LL.usize-copy, (LL.shr_slice_copy (at 0 tt κs) u8 tt, (LL.u32-copy, (LL.usize-copy, (LL.usize-copy, (LL.usize-copy, copyable-last κs)))))))
+    (LL.usize-copy, (LL.usize-copy, (LL.shr_slice_copy (at 0 tt κs) u8 tt, (LL.usize-copy, (LL.usize-copy, (LL.usize-copy, copyable-last κs))))))
 
 abbrev lengths : List Param
 lengths = a-usize ∷ a-usize ∷ a-usize ∷ a-usize ∷ a-usize ∷ []
@@ -118,16 +118,16 @@ search-records = record {
   typed = λ κs a t. t;
 }
 
--- ---- the arguments: ten that are only read, and X behind them
+-- ---- the arguments: nine that are only read, and X behind them
 abbrev Behind : Type 0 → Type 0
-Behind X = ℕ × (ℕ × (MutBor (List ℕ) × (ℕ × (ℕ × (ℕ × (ℕ × (ℕ × (MutBor (List ℕ) × (MutBor (List ℕ) × X)))))))))
+Behind X = ℕ × (ℕ × (MutBor (List ℕ) × (ℕ × (ℕ × (ℕ × (ℕ × (MutBor (List ℕ) × (MutBor (List ℕ) × X))))))))
 
 abbrev Outs : Type 0 → Type 0
 Outs X = MutBor (List ℕ) × (MutBor (List Float) × (MutBor (List ℕ) × (MutBor (List Float) × X)))
 
 module _ (a : Behind (Outs (MutBor (List Candidate) × Unit {0}))) where
   abbrev outs : Outs (MutBor (List Candidate) × Unit {0})
-  outs = a.1.1.1.1.1.1.1.1.1.1
+  outs = a.1.1.1.1.1.1.1.1.1
 
   abbrev words : MutBor (List ℕ)
   words = outs.0
@@ -145,16 +145,15 @@ module _ (a : Behind (Outs (MutBor (List Candidate) × Unit {0}))) where
   records = outs.1.1.1.1.0
 
   abbrev table : MutBor (List ℕ)
-  table = a.1.1.1.1.1.1.1.1.0
+  table = a.1.1.1.1.1.1.1.0
 
   abbrev query : MutBor (List ℕ)
-  query = a.1.1.1.1.1.1.1.1.1.0
+  query = a.1.1.1.1.1.1.1.1.0
 
-  -- the ten, before other things
+  -- the nine, before other things
   abbrev read-and : {X : Type 0} → X → Behind X
   read-and x =
-      let b = a.1.1.1.1.1 in
-      (a.0, (a.1.0, (a.1.1.0, (a.1.1.1.0, (a.1.1.1.1.0, (b.0, (b.1.0, (b.1.1.0, (table, (query, x))))))))))
+      (a.0, (a.1.0, (a.1.1.0, (a.1.1.1.0, (a.1.1.1.1.0, (a.1.1.1.1.1.0, (a.1.1.1.1.1.1.0, (table, (query, x)))))))))
 
   abbrev to_number : Behind (ℕ × (ℕ × (ℕ × (ℕ × (ℕ × Unit {0})))))
   to_number = read-and (length words.now, (length floats.now, (length ids.now, (length dists.now, (length records.now, tt)))))
@@ -169,23 +168,21 @@ module _ (a : Behind (Outs (MutBor (List Candidate) × Unit {0}))) where
   -- the search that is asked for
   abbrev asked : SearchCall
   asked =
-      let b = a.1.1.1.1.1 in
-      call_of a.0 a.1.0 a.1.1.0.now a.1.1.1.0 a.1.1.1.1.0 b.0 b.1.0 b.1.1.0
+      call_of a.0 a.1.0 a.1.1.0.now a.1.1.1.0 a.1.1.1.1.0 a.1.1.1.1.1.0 a.1.1.1.1.1.1.0
       table.now query.now words.now floats.now ids.now dists.now
 
 -- ---- the last values: nothing is bound for what is only read
 abbrev Unread : Type 0 → Type 0
-Unread X =
-    Unit {0} × (Unit {0} × (Unit {0} × (Unit {0} × (Unit {0} × (Unit {0} × (Unit {0} × (Unit {0} × (Unit {0} × (Unit {0} × X)))))))))
+Unread X = Unit {0} × (Unit {0} × (Unit {0} × (Unit {0} × (Unit {0} × (Unit {0} × (Unit {0} × (Unit {0} × (Unit {0} × X))))))))
 
 abbrev unread : {X : Type 0} → X → Unread X
-unread x = (tt, (tt, (tt, (tt, (tt, (tt, (tt, (tt, (tt, (tt, x))))))))))
+unread x = (tt, (tt, (tt, (tt, (tt, (tt, (tt, (tt, (tt, x)))))))))
 
 abbrev Lasts : Type 0
 Lasts = List ℕ × (List Float × (List ℕ × (List Float × Unit {0})))
 
 abbrev lasts-of : Unread Lasts → Lasts
-lasts-of zs = zs.1.1.1.1.1.1.1.1.1.1
+lasts-of zs = zs.1.1.1.1.1.1.1.1.1
 
 -- what the search left
 abbrev left : Answer → Lasts → SearchOut
@@ -274,22 +271,22 @@ module _ {M : Type 1} {𝓤 : Ura M} (𝓛 : Logic 𝓤) (𝓜 : Model 𝓤 𝓛
       ((lfts, (q 7 tt, (full_share, (full_share, tt))), tt, (records a, (is, (ds, (n, tt)))), vals), tt)
 
   -- a number that is not 0: everything is as it came
-  refuses : (m : ℕ) → NumberedBeside (asked a) (length (records a).now) m → T (not (eqb m 0)) → {E : Env 𝓤 H} {cs : List Cell} {Q : Post 𝓤 H} {b b₁₆ : ℕ}
-      → E ≡ env cs → Has cs 16 (holds (ty_int w32) b₁₆ (vint w32 m)) → At cs 0 AnswerL.mir b → post 𝓤 H Q returned ≡ at_return 𝓤 H E Ends returned
-      → Seq (Go {0}) 𝓛 (‵ (tokens 8 κs qs) ∷ Lents ∷ locals cs ∷ []) (runs C Λ E (seq (call refuse.name (copy (place 16 []) ∷ []) (place 0 [])) return) Q)
-  refuses m numbered t {cs = cs} e has₁₆ at₀ ends = do
-    number_in ! 16 refl has₁₆
+  refuses : (m : ℕ) → NumberedBeside (asked a) (length (records a).now) m → T (not (eqb m 0)) → {E : Env 𝓤 H} {cs : List Cell} {Q : Post 𝓤 H} {b b₁₅ : ℕ}
+      → E ≡ env cs → Has cs 15 (holds (ty_int w32) b₁₅ (vint w32 m)) → At cs 0 AnswerL.mir b → post 𝓤 H Q returned ≡ at_return 𝓤 H E Ends returned
+      → Seq (Go {0}) 𝓛 (‵ (tokens 8 κs qs) ∷ Lents ∷ locals cs ∷ []) (runs C Λ E (seq (call refuse.name (copy (place 15 []) ∷ []) (place 0 [])) return) Q)
+  refuses m numbered t {cs = cs} e has₁₅ at₀ ends = do
+    number_in ! 15 refl has₁₅
     gathers ! (0 ∷ [])
     nothing !
     (v, r, _) ← called 𝓛 𝓜 𝓡 search-records refuse ! code.calls-answers::refused ((tt, tt, tt, (m, tt), (vint w32 m ∷ [], tt)), tt) (id⊢ 𝓤 (emp 𝓤))
-        (and_then ! (local-is ! 16 (refl, e) has₁₆) (no_more !))
+        (and_then ! (local-is ! 15 (refl, e) has₁₅) (no_more !))
     refused-is ← heard ! (r ≡ refused m)
     _ ← lands_as ! AnswerT.the_type AnswerL.the_laws r (refl, e) refl at₀
     leaves-within ! Ends ends (refl, e ∙ env-put cs 0 AnswerL.mir _ _ at₀) (has_same cs 0 AnswerL.mir _ _ at₀)
     -- [result; no tokens; nothing said; eight tokens; what was lent]
     move ! (4 ∷ [])
     all-given-up ! lent (outs a) (spells-out a)
-    unsaid ! 10
+    unsaid ! 9
     keep ! (4 ∷ 1 ∷ 0 ∷ [])
     states ! (records-refused (asked a) (records a).now m numbered (refusal m t) r refused-is)
     by ! (ended 𝓛 𝓜 𝓡 search-records bound _ r (unread ((words a).now, ((floats a).now, ((ids a).now, ((dists a).now, ((records a).now, tt)))))))
@@ -314,22 +311,22 @@ module _ {M : Type 1} {𝓤 : Ura M} (𝓛 : Logic 𝓤) (𝓜 : Model 𝓤 𝓛
           ∷ token 0 tt ∷ token 1 tt ∷ token 2 tt ∷ token 3 tt ∷ token 4 tt ∷ ‵ (Answers.own r (spelled-answer r ∷ [])) ∷ []
 
       abbrev arguments : List Operand
-      arguments = copy (place 35 []) ∷ copy (place 37 []) ∷ copy (place 39 []) ∷ copy (place 18 []) ∷ []
+      arguments = copy (place 34 []) ∷ copy (place 36 []) ∷ copy (place 38 []) ∷ copy (place 17 []) ∷ []
 
       abbrev values_of : List Val
       values_of = only (mut_slice_vals (records a)) ∷ only (mut_slice_vals (ids a)) ∷ only (mut_slice_vals (dists a)) ∷ vint w64 r.count ∷ []
 
-      copies : {E : Env 𝓤 H} {cs : List Cell} {b b₀ b₁₇ b₁₈ : ℕ} → E ≡ env cs → held cs arguments ≡ all-some values_of
-          → Has cs 18 (holds (ty_int w64) b₁₈ (vint w64 r.count)) → Has cs 17 (holds AnswerL.mir b₁₇ (spelled-answer r))
-          → At cs 33 ty_unit b → At cs 0 AnswerL.mir b₀
+      copies : {E : Env 𝓤 H} {cs : List Cell} {b b₀ b₁₆ b₁₇ : ℕ} → E ≡ env cs → held cs arguments ≡ all-some values_of
+          → Has cs 17 (holds (ty_int w64) b₁₇ (vint w64 r.count)) → Has cs 16 (holds AnswerL.mir b₁₆ (spelled-answer r))
+          → At cs 32 ty_unit b → At cs 0 AnswerL.mir b₀
           → Seq (Go {0}) 𝓛 (had ++ (locals cs ∷ []))
-          (runs C Λ E (seq (call copy_run.name arguments (place 33 [])) (seq (assign (place 0 []) (rv_opd (copy (place 17 [])))) return)) (at_ret E Ends))
-      copies {E = E} {cs = cs} {b = b} {b₀ = b₀} e args has₁₈ has₁₇ at₃₃ at₀ = do
+          (runs C Λ E (seq (call copy_run.name arguments (place 32 [])) (seq (assign (place 0 []) (rv_opd (copy (place 16 [])))) return)) (at_ret E Ends))
+      copies {E = E} {cs = cs} {b = b} {b₀ = b₀} e args has₁₇ has₁₆ at₃₂ at₀ = do
         move ! (4 ∷ 5 ∷ [])
         (ν₂, δ₂, p₂) ← shared ! tt f32 (named 6) (named 2) dists' (mut_slice_vals (dists a))
         move ! (5 ∷ 6 ∷ [])
         (ν₁, δ₁, p₁) ← shared ! tt u32 (named 5) (named 1) ids' (mut_slice_vals (ids a))
-        number_in ! 18 refl has₁₈
+        number_in ! 17 refl has₁₇
         -- [count; ids shared; token; kept; dists shared; token; kept; said of words, floats; records; token; five tokens; result; frame]
         gathers ! (9 ∷ 1 ∷ 4 ∷ 0 ∷ [])
         gathers ! (7 ∷ 1 ∷ 3 ∷ [])
@@ -337,7 +334,7 @@ module _ {M : Type 1} {𝓤 : Ura M} (𝓛 : Logic 𝓤) (𝓜 : Model 𝓤 𝓛
             (asked-copy ν₁ ν₂ (under ids' δ₁) (under dists' δ₂) r.count)
             (fact_i 𝓤 _ (emp 𝓤) (in_all (asked a) (records a).now m numbered zero_is _ found)) (values ! (refl, e) args)
         Copy-is ← heard ! (ws.0 ≡ copied z.1.1.0 z.1.1.1.0 r.count (records a).now)
-        _ ← lands-field ! unit-field LL.unit-laws u (refl, e) refl at₃₃
+        _ ← lands-field ! unit-field LL.unit-laws u (refl, e) refl at₃₂
         pieces_of ! 1 3
         -- [tokens of records, ids, dists; unit; said of records; ids kept; dists kept; said of words, floats; five tokens; result; frame]
         move ! (2 ∷ 6 ∷ [])
@@ -346,25 +343,25 @@ module _ {M : Type 1} {𝓤 : Ura M} (𝓛 : Logic 𝓤) (𝓜 : Model 𝓤 𝓛
         move ! (3 ∷ 6 ∷ [])
         came-back-shared ! tt u32 (named 5) ids' (mut_slice_vals (ids a)) p₁
         given-up ! u32 (named 5) (κ 5 tt) ids' (mut_slice_vals (ids a)) as-many-ids
-        sets ! (refl, e₁) (of_opd ! (local-is ! 17 (refl, e₁) (has_other cs 33 17 _ _ tt has₁₇))) at₀' typed
+        sets ! (refl, e₁) (of_opd ! (local-is ! 16 (refl, e₁) (has_other cs 32 16 _ _ tt has₁₆))) at₀' typed
         leaves ! (refl, e₁ ∙ env-put cs₁ 0 AnswerL.mir b₀ _ at₀') (has_same cs₁ 0 AnswerL.mir b₀ _ at₀')
         -- [said of ids; token; said of dists; token; token of records; unit; said of records; said of words, floats; five tokens; result]
         pieces_of ! 6 1
         gathers ! (7 ∷ 8 ∷ 1 ∷ 3 ∷ 0 ∷ [])
-        unsaid ! 10
+        unsaid ! 9
         gathers ! (5 ∷ 6 ∷ 7 ∷ 8 ∷ 9 ∷ 1 ∷ 2 ∷ 3 ∷ [])
         keep ! (0 ∷ 3 ∷ 1 ∷ [])
         states ! (records-done (asked a) (records a).now m numbered zero_is _ found ws.0 Copy-is)
         by ! (ended 𝓛 𝓜 𝓡 search-records bound _ r (unread (z.0, (z.1.0, (z.1.1.0, (z.1.1.1.0, (ws.0, tt)))))))
         where
           cs₁ : List Cell
-          cs₁ = putc cs 33 (holds ty_unit b vunit)
+          cs₁ = putc cs 32 (holds ty_unit b vunit)
 
           e₁ : E ≡ env cs₁
-          e₁ = e ∙ env-put cs 33 ty_unit b vunit at₃₃
+          e₁ = e ∙ env-put cs 32 ty_unit b vunit at₃₂
 
           at₀' : At cs₁ 0 AnswerL.mir b₀
-          at₀' = at_other cs 33 0 AnswerL.mir b₀ (holds ty_unit b vunit) tt at₀
+          at₀' = at_other cs 32 0 AnswerL.mir b₀ (holds ty_unit b vunit) tt at₀
 
           typed : T (has_ty AnswerL.mir (spelled-answer r)) × WT (spelled-answer r)
           typed = ((LL.lawful AnswerT.the_type AnswerL.the_laws 𝓛).typed r _ is).0
@@ -377,9 +374,9 @@ module _ {M : Type 1} {𝓤 : Ura M} (𝓛 : Logic 𝓤) (𝓜 : Model 𝓤 𝓛
       abbrev tested : List Cell
       tested =
           let cs : List Cell = begun (code.function).locals bs (passed search-records κs a) in
-          let counted : List Cell = length-in 23 (length (records a).now) (length-in 22 (length (dists a).now) (length-in 21 (length (ids a).now)
-          (length-in 20 (length (floats a).now) (length-in 19 (length (words a).now) cs)))) in
-          putc (putc counted 16 (holds (ty_int w32) (bs 16) (vint w32 m))) 24 (holds ty_bool (bs 24) (vbool (not (eqb m 0))))
+          let counted : List Cell = length-in 22 (length (records a).now) (length-in 21 (length (dists a).now) (length-in 20 (length (ids a).now)
+          (length-in 19 (length (floats a).now) (length-in 18 (length (words a).now) cs)))) in
+          putc (putc counted 15 (holds (ty_int w32) (bs 15) (vint w32 m))) 23 (holds ty_bool (bs 23) (vbool (not (eqb m 0))))
 
       abbrev E : Env 𝓤 H
       E = env (vacants (code.function).locals bs)
@@ -399,19 +396,19 @@ module _ {M : Type 1} {𝓤 : Ura M} (𝓛 : Logic 𝓤) (𝓜 : Model 𝓤 𝓛
         (ν₂, δ₂, room₂) ← relent ! tt f32 (named 6) (named 6) (dists a)
         -- [dists lent; token; kept; ids lent; token; kept; words; floats; records; tokens 0 to 4, 7; read; frame]
         gathers ! (6 ∷ 7 ∷ 3 ∷ 0 ∷ [])
-        fronts ! 12 10
+        fronts ! 12 9
         gathers ! (6 ∷ 7 ∷ 8 ∷ 9 ∷ 10 ∷ 3 ∷ 1 ∷ [])
         (v, r, zs) ← called 𝓛 𝓜 𝓡 search-records search-accepted ! code.calls-search::search-accepted (asked-search ν₁ ν₂ δ₁ δ₂)
             (fact_i 𝓤 _ (emp 𝓤) (beside-accepted (asked a) (length (records a).now) m numbered zero_is).0) (values ! here refl)
         found ← heard ! (Searched (asked a) (left r (lasts-of zs)))
         is ← lands_as ! AnswerT.the_type AnswerL.the_laws r here refl refl
-        sets ! here (of_opd ! (field_is ! 17 1 here refl refl)) refl (tt, record { fits = count_fits r is })
+        sets ! here (of_opd ! (field_is ! 16 1 here refl refl)) refl (tt, record { fits = count_fits r is })
         relends ! here refl refl refl tt
         relends ! here refl refl refl tt
         relends ! here refl refl refl tt
         pieces_of ! 1 7
         move ! (8 ∷ [])
-        past ! 10
+        past ! 9
         pieces ! 4
         -- [said of words, floats, ids, dists; seven tokens; result; dists kept; ids kept; records; token; frame]
         move ! (9 ∷ 13 ∷ 2 ∷ [])
@@ -429,16 +426,16 @@ search-records-spec 𝓤 𝓛 𝓜 𝓡 = proved 𝓛 𝓜 𝓡 search-records (
   counts ! here refl refl
   counts ! here refl refl
   counts ! here refl refl
-  pieces_of ! 1 15
-  gathers ! (0 ∷ 1 ∷ 2 ∷ 3 ∷ 4 ∷ 5 ∷ 6 ∷ 7 ∷ 8 ∷ 9 ∷ [])
+  pieces_of ! 1 14
+  gathers ! (0 ∷ 1 ∷ 2 ∷ 3 ∷ 4 ∷ 5 ∷ 6 ∷ 7 ∷ 8 ∷ [])
   twice ! (reads κs) (copyable κs) (read-and a tt)
-  number_in ! 23 refl refl
   number_in ! 22 refl refl
   number_in ! 21 refl refl
   number_in ! 20 refl refl
   number_in ! 19 refl refl
+  number_in ! 18 refl refl
   gathers ! (0 ∷ 1 ∷ 2 ∷ 3 ∷ 4 ∷ [])
-  fronts ! 1 10
+  fronts ! 1 9
   -- [read, and the lengths; read; what is lent, five; tokens; requires; frame]
   pieces_of ! 7 8
   gathers ! (0 ∷ 1 ∷ 2 ∷ [])
@@ -447,14 +444,14 @@ search-records-spec 𝓤 𝓛 𝓜 𝓡 = proved 𝓛 𝓜 𝓡 search-records (
       (id⊢ 𝓤 (emp 𝓤)) (values ! here refl)
   numbered ← heard ! (NumberedBeside (asked a) (length (records a).now) m)
   is ← lands-field ! u32-field LL.u32-laws m here refl refl
-  sets ! here (bin ! (local-is ! 16 here refl) (lit ! tt) tt) refl (tt, tt)
+  sets ! here (bin ! (local-is ! 15 here refl) (lit ! tt) tt) refl (tt, tt)
   -- [the number; three tokens; nothing said; five tokens; read; what is lent, five; requires; frame]
   gathers ! (3 ∷ 4 ∷ 5 ∷ 6 ∷ 7 ∷ [])
   fronts ! 2 3
   gathers ! (4 ∷ 5 ∷ 6 ∷ 7 ∷ 8 ∷ [])
   keep ! (1 ∷ 4 ∷ 0 ∷ 6 ∷ [])
   first !
-  branches ! (local-is ! 24 here refl)
+  branches ! (local-is ! 23 here refl)
       (λ t. do
         keep ! (0 ∷ 2 ∷ 3 ∷ [])
         refuses 𝓛 𝓜 𝓡 κs qs a m numbered t refl refl refl refl)

@@ -20,7 +20,7 @@ entry c = (placed c).before.before.before.before.before.before.before.before.bef
 -- what the search left, and what it tells
 abbrev left : tie.After-search → SearchOut
 left c =
-    let l = c.search.new.1.1.1.1.1.1.1.1.1.1 in
+    let l = c.search.new.1.1.1.1.1.1.1.1.1 in
     record { answer = c.search.result; words = l.0; floats = l.1.0; ids = l.1.1.0; dists = l.1.1.1.0 }
 
 told : (c : tie.After-search) → Told (entry c).args.vals.now (entry c).args.ids.now (left c)
@@ -32,7 +32,7 @@ told c =
 
 -- ids and distances are as many after the search
 ids-kept : (c : tie.After-search) → length (left c).ids ≡ length (entry c).args.ids.now
-ids-kept c = c.search.auto.1.1.1.1.1.1.1.1.1.1.1.1.0
+ids-kept c = c.search.auto.1.1.1.1.1.1.1.1.1.1.1.0
 
 the-n-requires : tie.Need-the-n-requires
 the-n-requires c κs = search rules
@@ -128,7 +128,7 @@ put-found-requires c κs =
     let searched = zero.before.before.before.before.before.before.before.before.before in
     let room = (entry searched).requires.1 in
     let few = (told searched).few zero.if1.false (ids-kept searched) in
-    let dists = searched.search.auto.1.1.1.1.1.1.1.1.1.1.1.1.1.0 in (
+    let dists = searched.search.auto.1.1.1.1.1.1.1.1.1.1.1.1.0 in (
       (omega (arith, few, ids-kept searched), omega (arith, few, dists, room.dists-room), omega (arith, few, room.out-room)),
       (told searched).whole zero.if1.false,
     )
