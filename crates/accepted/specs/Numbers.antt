@@ -4,9 +4,9 @@ use Rattle.std.proofs.Common.{arith, sym, ◌∙◌, ne_eqb, lit≤, lit<}
 use Rattle.std.proofs.lemmas.Bool.{eqb-false}
 use Rattle.definition.specs.declared.Candidate.{Candidate}
 use Rattle.definition.specs.Slack.{slack}
-use Rattle.definition.specs.Refusals.{BatchCall, OpenCall, CloseCall, BuildCall, MedoidCall, SearchCall, batchNumber, openNumber, closeNumber, buildNumber}
-use Rattle.definition.specs.Refusals.{medoidNumber, searchNumber, searchNumberAt, searchShort, recordsNumber}
-use Rattle.definition.specs.Refusals.{◌when◌else◌, badVectors, badDegree, badSeeds, badLength, badTable, badSearched, bad_order, badPivots}
+use Rattle.definition.specs.Refusals.{BatchCall, OpenCall, CloseCall, BuildCall, MedoidCall, SearchCall, batch_number, open_number, close_number, build_number}
+use Rattle.definition.specs.Refusals.{medoid_number, search_number, search_number_at, search_short, records_number}
+use Rattle.definition.specs.Refusals.{◌when◌else◌, bad_vectors, bad_degree, bad_seeds, bad_length, bad_table, bad_searched, bad_order, bad_pivots}
 use Rattle.accepted.specs.Chain.{past}
 
 -- m is not the number k of this check, nor what the later ones say
@@ -30,42 +30,42 @@ six m h a b c d e f r n =
     (beside 2 m _ _ (no 2 (lit≤ tt))
     (beside 3 m _ _ (no 3 (lit≤ tt)) (beside 4 m _ _ (no 4 (lit≤ tt)) (beside 5 m _ _ (no 5 (lit≤ tt)) (beside 6 m _ _ (no 6 (lit≤ tt)) n)))))
 
-pub batch-not-7 : (c : BatchCall) → badSeeds c.n c.params.extra c.start (length c.nodes) c.seeds ≡ false → batchNumber c ≢ 7
-unfolding batchNumber
-batch-not-7 c p = six 7 (lit< tt) _ _ _ _ _ _ _ (clear 7 7 _ _ p (beside 8 7 _ _ refl (beside 9 7 _ _ refl (beside 10 7 _ _ refl (done 7 refl)))))
+pub batch_not_7 : (c : BatchCall) → bad_seeds c.n c.params.extra c.start (length c.nodes) c.seeds ≡ false → batch_number c ≢ 7
+unfolding batch_number
+batch_not_7 c p = six 7 (lit< tt) _ _ _ _ _ _ _ (clear 7 7 _ _ p (beside 8 7 _ _ refl (beside 9 7 _ _ refl (beside 10 7 _ _ refl (done 7 refl)))))
 
-pub batch-not-8 : (c : BatchCall) → badTable c.n (slack c.params.degree) c.wide ≡ false → batchNumber c ≢ 8
-unfolding batchNumber
-batch-not-8 c p = six 8 (lit< tt) _ _ _ _ _ _ _ (beside 7 8 _ _ refl (clear 8 8 _ _ p (beside 9 8 _ _ refl (beside 10 8 _ _ refl (done 8 refl)))))
+pub batch_not_8 : (c : BatchCall) → bad_table c.n (slack c.params.degree) c.wide ≡ false → batch_number c ≢ 8
+unfolding batch_number
+batch_not_8 c p = six 8 (lit< tt) _ _ _ _ _ _ _ (beside 7 8 _ _ refl (clear 8 8 _ _ p (beside 9 8 _ _ refl (beside 10 8 _ _ refl (done 8 refl)))))
 
-pub open-not-8 : (c : OpenCall) → (badTable c.n c.degree c.opening || badLength c.n (slack c.degree) c.wide) ≡ false → openNumber c ≢ 8
-unfolding openNumber
-open-not-8 c p = beside 2 8 _ _ refl (beside 3 8 _ _ refl (clear 8 8 _ _ p (done 8 refl)))
+pub open_not_8 : (c : OpenCall) → (bad_table c.n c.degree c.opening || bad_length c.n (slack c.degree) c.wide) ≡ false → open_number c ≢ 8
+unfolding open_number
+open_not_8 c p = beside 2 8 _ _ refl (beside 3 8 _ _ refl (clear 8 8 _ _ p (done 8 refl)))
 
-pub close-not-8 : (c : CloseCall) → (badTable c.n (slack c.params.degree) c.wide || badLength c.n c.params.degree c.closed) ≡ false
-    → closeNumber c ≢ 8
-unfolding closeNumber
-close-not-8 c p =
+pub close_not_8 : (c : CloseCall) → (bad_table c.n (slack c.params.degree) c.wide || bad_length c.n c.params.degree c.closed) ≡ false
+    → close_number c ≢ 8
+unfolding close_number
+close_not_8 c p =
     beside 1 8 _ _ refl (beside 2 8 _ _ refl (beside 3 8 _ _ refl (beside 5 8 _ _ refl (clear 8 8 _ _ p (beside 10 8 _ _ refl (done 8 refl))))))
 
-pub build-not-7 : (c : BuildCall) → badSeeds c.n c.params.extra c.start c.n c.seeds ≡ false → buildNumber c ≢ 7
-unfolding buildNumber
-build-not-7 c p = six 7 (lit< tt) _ _ _ _ _ _ _ (clear 7 7 _ _ p (beside 8 7 _ _ refl (beside 9 7 _ _ refl (beside 10 7 _ _ refl (done 7 refl)))))
+pub build_not_7 : (c : BuildCall) → bad_seeds c.n c.params.extra c.start c.n c.seeds ≡ false → build_number c ≢ 7
+unfolding build_number
+build_not_7 c p = six 7 (lit< tt) _ _ _ _ _ _ _ (clear 7 7 _ _ p (beside 8 7 _ _ refl (beside 9 7 _ _ refl (beside 10 7 _ _ refl (done 7 refl)))))
 
-pub build-not-8 : (c : BuildCall)
-    → (badTable c.n c.params.degree c.opening
-    || (badLength c.n (slack c.params.degree) c.wide || badLength c.n c.params.degree c.closed)) ≡ false
-    → buildNumber c ≢ 8
-unfolding buildNumber
-build-not-8 c p = six 8 (lit< tt) _ _ _ _ _ _ _ (beside 7 8 _ _ refl (clear 8 8 _ _ p (beside 9 8 _ _ refl (beside 10 8 _ _ refl (done 8 refl)))))
+pub build_not_8 : (c : BuildCall)
+    → (bad_table c.n c.params.degree c.opening
+    || (bad_length c.n (slack c.params.degree) c.wide || bad_length c.n c.params.degree c.closed)) ≡ false
+    → build_number c ≢ 8
+unfolding build_number
+build_not_8 c p = six 8 (lit< tt) _ _ _ _ _ _ _ (beside 7 8 _ _ refl (clear 8 8 _ _ p (beside 9 8 _ _ refl (beside 10 8 _ _ refl (done 8 refl)))))
 
-pub build-not-9 : (c : BuildCall) → bad_order c.n c.order ≡ false → buildNumber c ≢ 9
-unfolding buildNumber
-build-not-9 c p = six 9 (lit< tt) _ _ _ _ _ _ _ (beside 7 9 _ _ refl (beside 8 9 _ _ refl (clear 9 9 _ _ p (beside 10 9 _ _ refl (done 9 refl)))))
+pub build_not_9 : (c : BuildCall) → bad_order c.n c.order ≡ false → build_number c ≢ 9
+unfolding build_number
+build_not_9 c p = six 9 (lit< tt) _ _ _ _ _ _ _ (beside 7 9 _ _ refl (beside 8 9 _ _ refl (clear 9 9 _ _ p (beside 10 9 _ _ refl (done 9 refl)))))
 
-pub medoid-not-12 : (c : MedoidCall) → badPivots c.n c.pivots ≡ false → medoidNumber c ≢ 12
-unfolding medoidNumber
-medoid-not-12 c p = beside 1 12 _ _ refl (beside 2 12 _ _ refl (clear 12 12 _ _ p (done 12 refl)))
+pub medoid_not_12 : (c : MedoidCall) → bad_pivots c.n c.pivots ≡ false → medoid_number c ≢ 12
+unfolding medoid_number
+medoid_not_12 c p = beside 1 12 _ _ refl (beside 2 12 _ _ refl (clear 12 12 _ _ p (done 12 refl)))
 
 -- m is none of the later numbers of a search
 later : (m : ℕ) → m < 4 → (d e f g h : Bool) → 0 ≢ m → (4 when d else 6 when e else 8 when f else 10 when g else 11 when h else 0) ≢ m
@@ -74,32 +74,32 @@ later m l d e f g h z =
     beside 4 m _ _ (no 4 (lit≤ tt))
     (beside 6 m _ _ (no 6 (lit≤ tt)) (beside 8 m _ _ (no 8 (lit≤ tt)) (beside 10 m _ _ (no 10 (lit≤ tt)) (beside 11 m _ _ (no 11 (lit≤ tt)) z))))
 
-number-not-2 : (tooShort : Bool) (c : SearchCall) → badVectors c.n c.dim c.vectors ≡ false → searchNumberAt tooShort c ≢ 2
-unfolding searchNumberAt
-number-not-2 tooShort c p = beside 1 2 _ _ refl (clear 2 2 _ _ p (beside 3 2 _ _ refl (later 2 (lit< tt) _ _ _ _ _ (done 2 refl))))
+number_not_2 : (tooShort : Bool) (c : SearchCall) → bad_vectors c.n c.dim c.vectors ≡ false → search_number_at tooShort c ≢ 2
+unfolding search_number_at
+number_not_2 tooShort c p = beside 1 2 _ _ refl (clear 2 2 _ _ p (beside 3 2 _ _ refl (later 2 (lit< tt) _ _ _ _ _ (done 2 refl))))
 
-number-not-3 : (tooShort : Bool) (c : SearchCall) → badDegree c.degree ≡ false → searchNumberAt tooShort c ≢ 3
-unfolding searchNumberAt
-number-not-3 tooShort c p = beside 1 3 _ _ refl (beside 2 3 _ _ refl (clear 3 3 _ _ p (later 3 (lit< tt) _ _ _ _ _ (done 3 refl))))
+number_not_3 : (tooShort : Bool) (c : SearchCall) → bad_degree c.degree ≡ false → search_number_at tooShort c ≢ 3
+unfolding search_number_at
+number_not_3 tooShort c p = beside 1 3 _ _ refl (beside 2 3 _ _ refl (clear 3 3 _ _ p (later 3 (lit< tt) _ _ _ _ _ (done 3 refl))))
 
-number-not-8 : (tooShort : Bool) (c : SearchCall) → badSearched c.n c.degree c.table ≡ false → searchNumberAt tooShort c ≢ 8
-unfolding searchNumberAt
-number-not-8 tooShort c p =
+number_not_8 : (tooShort : Bool) (c : SearchCall) → bad_searched c.n c.degree c.table ≡ false → search_number_at tooShort c ≢ 8
+unfolding search_number_at
+number_not_8 tooShort c p =
     beside 1 8 _ _ refl (beside 2 8 _ _ refl
     (beside 3 8 _ _ refl (beside 4 8 _ _ refl (beside 6 8 _ _ refl (clear 8 8 _ _ p (beside 10 8 _ _ refl (beside 11 8 _ _ refl (done 8 refl))))))))
 
 -- with a run of records too
-pub search-not-2 : (c : SearchCall) → badVectors c.n c.dim c.vectors ≡ false
-    → (searchNumber c ≢ 2) × ((records : List Candidate) → recordsNumber c records ≢ 2)
-unfolding searchNumber recordsNumber
-search-not-2 c p = (number-not-2 (searchShort c) c p, λ records. number-not-2 _ c p)
+pub search_not_2 : (c : SearchCall) → bad_vectors c.n c.dim c.vectors ≡ false
+    → (search_number c ≢ 2) × ((records : List Candidate) → records_number c records ≢ 2)
+unfolding search_number records_number
+search_not_2 c p = (number_not_2 (search_short c) c p, λ records. number_not_2 _ c p)
 
-pub search-not-3 : (c : SearchCall) → badDegree c.degree ≡ false
-    → (searchNumber c ≢ 3) × ((records : List Candidate) → recordsNumber c records ≢ 3)
-unfolding searchNumber recordsNumber
-search-not-3 c p = (number-not-3 (searchShort c) c p, λ records. number-not-3 _ c p)
+pub search_not_3 : (c : SearchCall) → bad_degree c.degree ≡ false
+    → (search_number c ≢ 3) × ((records : List Candidate) → records_number c records ≢ 3)
+unfolding search_number records_number
+search_not_3 c p = (number_not_3 (search_short c) c p, λ records. number_not_3 _ c p)
 
-pub search-not-8 : (c : SearchCall) → badSearched c.n c.degree c.table ≡ false
-    → (searchNumber c ≢ 8) × ((records : List Candidate) → recordsNumber c records ≢ 8)
-unfolding searchNumber recordsNumber
-search-not-8 c p = (number-not-8 (searchShort c) c p, λ records. number-not-8 _ c p)
+pub search_not_8 : (c : SearchCall) → bad_searched c.n c.degree c.table ≡ false
+    → (search_number c ≢ 8) × ((records : List Candidate) → records_number c records ≢ 8)
+unfolding search_number records_number
+search_not_8 c p = (number_not_8 (search_short c) c p, λ records. number_not_8 _ c p)

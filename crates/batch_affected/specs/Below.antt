@@ -5,57 +5,57 @@ use Rattle.std.proofs.Math.Bool.{not}
 use mathlib.Core.List.Memᴰ.{append_cases as split}
 use mathlib.Core.List.{List, Memᴰ as Mem}
 use Rattle.definition.specs.Tables.{row}
-use Rattle.definition.specs.Batch.{Setting, naming, base, mergedIds}
+use Rattle.definition.specs.Batch.{Setting, naming, base, merged_ids}
 use Rattle.definition.specs.Slack.{slack}
-use Rattle.laws.specs.Listed.{freshWidth}
-use Rattle.laws.specs.Members.{keep-mem}
-use Rattle.laws.specs.Rising.{rising-keeps}
-use Rattle.laws.specs.Words.{padding, Searchable, Below, ids-below, searchable-stretch}
-use Rattle.scratch.specs.Layout.{freshAt, freshRowAt}
-use Rattle.given.specs.Fresh.{Merging, entry, entriesOf, fresh_row, listedIn}
+use Rattle.laws.specs.Listed.{fresh_width}
+use Rattle.laws.specs.Members.{keep_mem}
+use Rattle.laws.specs.Rising.{rising_keeps}
+use Rattle.laws.specs.Words.{padding, Searchable, Below, ids-below, searchable_stretch}
+use Rattle.scratch.specs.Layout.{fresh_at, fresh_row_at}
+use Rattle.given.specs.Fresh.{Merging, entry, entries_of, fresh_row, listed_in}
 use Rattle.batch_chains.specs.Last.{seat}
-use Rattle.batch_affected.specs.Base.{base_of, base-words, words-wide, words-listed, seat-within}
-use Rattle.batch_affected.specs.Naming.{naming-to}
+use Rattle.batch_affected.specs.Base.{base_of, base_words_lem, words_wide, words_listed, seat_within}
+use Rattle.batch_affected.specs.Naming.{naming_to}
 
 -- each entry of the fresh rows is padding or an id below n
 abbrev pub NamesBelow : Merging → Type 0
-NamesBelow f = (e : ℕ) → e < entriesOf f.nodes → (entry f.n f.words e ≡ padding → ⊥) → entry f.n f.words e < f.n
+NamesBelow f = (e : ℕ) → e < entries_of f.nodes → (entry f.n f.words e ≡ padding → ⊥) → entry f.n f.words e < f.n
 
 module _ (g : Setting) (f : Merging) (wide : List ℕ) (width node : ℕ) (slack-is : width ≡ slack g.degree) (own : Searchable f.n (row width wide node))
     (real : Below f.n f.nodes) (named : NamesBelow f) where
   -- the words of the fresh row at place p
-  fresh-row : (p : ℕ) → p < length f.nodes → Searchable f.n (fresh_row f.n p f.words)
-  fresh-row p h =
-      let w : freshWidth ≡ (freshRowAt f.n p + freshWidth) - freshRowAt f.n p = omega arith in
-      subst (λ (k : ℕ). Searchable f.n (take k (drop (freshRowAt f.n p) f.words))) w
-      (searchable-stretch f.n f.words freshWidth (freshRowAt f.n p)
+  fresh_row_lem : (p : ℕ) → p < length f.nodes → Searchable f.n (fresh_row f.n p f.words)
+  fresh_row_lem p h =
+      let w : fresh_width ≡ (fresh_row_at f.n p + fresh_width) - fresh_row_at f.n p = omega arith in
+      subst (λ (k : ℕ). Searchable f.n (take k (drop (fresh_row_at f.n p) f.words))) w
+      (searchable_stretch f.n f.words fresh_width (fresh_row_at f.n p)
       (λ k l i q.
-      let e : freshAt f.n + (p * freshWidth + k) ≡ freshRowAt f.n p + k = omega arith in
+      let e : fresh_at f.n + (p * fresh_width + k) ≡ fresh_row_at f.n p + k = omega arith in
       subst (λ (x : ℕ). get_or f.words x 0 < f.n) e
-      (named (p * freshWidth + k) (omega arith) (λ z. q (ap (λ (x : ℕ). get_or f.words x 0) (sym e) ∙ z)))))
+      (named (p * fresh_width + k) (omega arith) (λ z. q (ap (λ (x : ℕ). get_or f.words x 0) (sym e) ∙ z)))))
 
-  base-row : (s : ℕ) → s ≤ length f.nodes → Searchable f.n (base_of f wide width node s)
-  base-row zero h = subst (Searchable f.n) (sym (words-wide _ refl)) own
-  base-row (suc p) h =
+  base_row : (s : ℕ) → s ≤ length f.nodes → Searchable f.n (base_of f wide width node s)
+  base_row zero h = subst (Searchable f.n) (sym (words_wide _ refl)) own
+  base_row (suc p) h =
       let q : p ≡ suc p - 1 = omega arith in
-      subst (Searchable f.n) (sym (words-listed _ (λ z. omega arith)))
-      (subst (λ (k : ℕ). Searchable f.n (fresh_row f.n k f.words)) q (fresh-row p (omega arith)))
+      subst (Searchable f.n) (sym (words_listed _ (λ z. omega arith)))
+      (subst (λ (k : ℕ). Searchable f.n (fresh_row f.n k f.words)) q (fresh_row_lem p (omega arith)))
 
-  base-below : (z : ℕ) → Mem z (base g wide (listedIn f) node) → z < f.n
-  base-below z m =
+  base_below : (z : ℕ) → Mem z (base g wide (listed_in f) node) → z < f.n
+  base_below z m =
       let s = seat f.nodes node 0 in
-      ids-below f.n (base_of f wide width node s) (base-row s (seat-within f.nodes node)) z
-      (subst (Mem z) (base-words g f wide width node slack-is s refl) m)
+      ids-below f.n (base_of f wide width node s) (base_row s (seat_within f.nodes node)) z
+      (subst (Mem z) (base_words_lem g f wide width node slack-is s refl) m)
 
-  naming-below : (z : ℕ) → Mem z (naming (listedIn f) node) → z < f.n
-  naming-below z m =
-      let s = naming-to f.nodes (drop (freshAt f.n) f.words) node z m in
-      subst (λ (x : ℕ). x < f.n) (sym s.who) (real s.seat-of s.low)
+  naming_below : (z : ℕ) → Mem z (naming (listed_in f) node) → z < f.n
+  naming_below z m =
+      let s = naming_to f.nodes (drop (fresh_at f.n) f.words) node z m in
+      subst (λ (x : ℕ). x < f.n) (sym s.who) (real s.seat_of s.low)
 
-  pub merged-below : (z : ℕ) → Mem z (mergedIds g wide (listedIn f) node) → z < f.n
-  unfolding mergedIds
-  merged-below z m = go (split (base g wide (listedIn f) node) (keep-mem (λ w. not (eqb w node)) _ ((rising-keeps _).to z m)).0)
+  pub merged_below : (z : ℕ) → Mem z (merged_ids g wide (listed_in f) node) → z < f.n
+  unfolding merged_ids
+  merged_below z m = go (split (base g wide (listed_in f) node) (keep_mem (λ w. not (eqb w node)) _ ((rising_keeps _).to z m)).0)
     where
-      go : Mem z (base g wide (listedIn f) node) ⊎ Mem z (naming (listedIn f) node) → z < f.n
-      go (inl h) = base-below z h
-      go (inr h) = naming-below z h
+      go : Mem z (base g wide (listed_in f) node) ⊎ Mem z (naming (listed_in f) node) → z < f.n
+      go (inl h) = base_below z h
+      go (inr h) = naming_below z h

@@ -1,4 +1,4 @@
--- The merged ids of one node: from chains and seats to the definition's `mergedIds`.
+-- The merged ids of one node: from chains and seats to the definition's `merged_ids`.
 pub mod Naming
 pub mod Base
 pub mod Says

@@ -1,11 +1,11 @@
 // Part 6, the merge: the ids of one affected node.
 ghost use Rattle.std.specs.Prelude.{◌≡◌, ◌+◌, ◌-◌, ◌*◌, ◌≤◌, ◌<◌, length};
 ghost use Rattle.definition.specs.Tables.{row};
-ghost use Rattle.laws.specs.Listed.{freshWidth};
-ghost use Rattle.scratch.specs.Layout.{widest, freshAt};
+ghost use Rattle.laws.specs.Listed.{fresh_width};
+ghost use Rattle.scratch.specs.Layout.{widest, fresh_at};
 ghost use Rattle.given.specs.Fresh.{merging, fresh_row};
-ghost use Rattle.batch_affected.specs.Base.{baseWords};
-ghost use Rattle.batch_affected.specs.Says.{mergedMost, Ready, Gathered};
+ghost use Rattle.batch_affected.specs.Base.{base_words};
+ghost use Rattle.batch_affected.specs.Says.{merged_most, Ready, Gathered};
 
 // How many merged ids a node can have: the words of its base, and the listed nodes.
 pub const MERGED: usize = 340;
@@ -20,8 +20,8 @@ pub fn base<'a>(
     slack: usize,
 ) -> &'a [u32]
     requires n_bound { (n ≤ 65536) × (node < n) × (slack ≤ widest) × (seat ≤ 256) }
-    requires fresh_width_in_bounds { (freshAt n + seat * freshWidth ≤ length words.now) × (node * slack + slack ≤ length wide.now) }
-    ensures { result.now ≡ baseWords seat (fresh_row n (seat - 1) words.now) (row slack wide.now node) }
+    requires fresh_width_in_bounds { (fresh_at n + seat * fresh_width ≤ length words.now) × (node * slack + slack ≤ length wide.now) }
+    ensures { result.now ≡ base_words seat (fresh_row n (seat - 1) words.now) (row slack wide.now node) }
 {
     if seat == 0 {
         let a = node * slack;
@@ -45,7 +45,7 @@ pub fn gather_node<'a>(
     slack: usize,
     list: &mut [u32],
 ) -> usize
-    requires node_lt_n { (node < n) × (slack ≤ widest) × (mergedMost ≤ length list.old) × (node * slack + slack ≤ length wide.now) }
+    requires node_lt_n { (node < n) × (slack ≤ widest) × (merged_most ≤ length list.old) × (node * slack + slack ≤ length wide.now) }
     requires ready { Ready (merging n nodes.now words.now) }
     ensures { Gathered (merging n nodes.now words.now) wide.now slack node list.new result }
 {

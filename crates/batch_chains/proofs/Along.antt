@@ -5,12 +5,12 @@ use native.Mathlib.Omega.{arith}
 use mathlib.Core.Path.{◌≡◌, refl, sym, ap, ◌∙◌}
 use mathlib.Core.List.{List, [], ◌∷◌, map}
 use lib.ListN.{length, get_or, take}
-use Rattle.laws.specs.Listed.{freshWidth}
-use Rattle.scratch.specs.Layout.{headsAt, linksAt}
-use Rattle.given.specs.Fresh.{Merging, entry, entriesOf}
-use Rattle.batch_ids.specs.Grown.{grown, wanted, grown-cons}
+use Rattle.laws.specs.Listed.{fresh_width}
+use Rattle.scratch.specs.Layout.{heads_at, links_at}
+use Rattle.given.specs.Fresh.{Merging, entry, entries_of}
+use Rattle.batch_ids.specs.Grown.{grown, wanted, grown_cons}
 use Rattle.batch_ids.specs.Says.{Rises, Grew}
-use Rattle.batch_chains.specs.Last.{last, last-most, last-is, named_none, named-hit, named-last}
+use Rattle.batch_chains.specs.Last.{last, last_most, last_is, named_none, named_hit, named_last}
 use Rattle.batch_chains.specs.Says.{Chains, sources, NamingAdded}
 
 -- a list of which the first `len` count
@@ -27,12 +27,12 @@ with f node e l = grown (wanted node (sources f node e)) (take l.len l.list)
 
 -- what is left to be walked, from e - 1 down
 pub record Along (f : Merging) (node : ℕ) (l₀ l : Front) (e : ℕ) : Type 0 where
-  pub within : e ≤ entriesOf f.nodes
+  pub within : e ≤ entries_of f.nodes
   pub hit : (a : ℕ) → suc a ≡ e → entry f.n f.words a ≡ node
   pub rises : Rises l.list l.len
   pub size : length l.list ≡ length l₀.list
-  pub same : with f node e l ≡ with f node (entriesOf f.nodes) l₀
-  pub most : l.len + (e + (freshWidth - 1)) / freshWidth ≤ l₀.len + length f.nodes
+  pub same : with f node e l ≡ with f node (entries_of f.nodes) l₀
+  pub most : l.len + (e + (fresh_width - 1)) / fresh_width ≤ l₀.len + length f.nodes
 
 module _ {f : Merging} {node : ℕ} (own : node < f.n) (ch : Chains f) where
   -- entry a of the fresh rows
@@ -41,48 +41,48 @@ module _ {f : Merging} {node : ℕ} (own : node < f.n) (ch : Chains f) where
 
   -- the node at whose row an entry stands
   abbrev whose : ℕ → ℕ
-  whose a = get_or f.nodes (a / freshWidth) 0
+  whose a = get_or f.nodes (a / fresh_width) 0
 
-  sources-last : (e : ℕ) → sources f node (last at node e) ≡ sources f node e
+  sources_last : (e : ℕ) → sources f node (last at node e) ≡ sources f node e
   unfolding sources
-  sources-last e = ap (map whose) (named-last at node e)
+  sources_last e = ap (map whose) (named_last at node e)
 
-  sources-hit : (a : ℕ) → at a ≡ node → sources f node (suc a) ≡ whose a ∷ sources f node a
+  sources_hit : (a : ℕ) → at a ≡ node → sources f node (suc a) ≡ whose a ∷ sources f node a
   unfolding sources
-  sources-hit a h = ap (map whose) (named-hit at node a h)
+  sources_hit a h = ap (map whose) (named_hit at node a h)
 
-  sources-none : sources f node 0 ≡ []
+  sources_none : sources f node 0 ≡ []
   unfolding sources
-  sources-none = ap (map whose) (named_none at node)
+  sources_none = ap (map whose) (named_none at node)
 
-  pub along-start : {l₀ : Front} {e heads o : ℕ} → heads ≡ headsAt f.n → o ≡ node → e ≡ get_or f.words (heads + o) 0
+  pub along_start : {l₀ : Front} {e heads o : ℕ} → heads ≡ heads_at f.n → o ≡ node → e ≡ get_or f.words (heads + o) 0
       → Rises l₀.list l₀.len → Along f node l₀ l₀ e
-  along-start {l₀} {e} {heads} {o} v is q s =
-      let here : heads + o ≡ headsAt f.n + node = omega arith in
-      let k : e ≡ last at node (entriesOf f.nodes) = q ∙ ap (λ (k : ℕ). get_or f.words k 0) here ∙ ch.chained.heads node own in
-      let le = last-most at node (entriesOf f.nodes) in
+  along_start {l₀} {e} {heads} {o} v is q s =
+      let here : heads + o ≡ heads_at f.n + node = omega arith in
+      let k : e ≡ last at node (entries_of f.nodes) = q ∙ ap (λ (k : ℕ). get_or f.words k 0) here ∙ ch.chained.heads node own in
+      let le = last_most at node (entries_of f.nodes) in
       record {
         within = omega arith;
-        hit = λ a z. last-is at node (entriesOf f.nodes) a (z ∙ k);
+        hit = λ a z. last_is at node (entries_of f.nodes) a (z ∙ k);
         rises = s;
         size = refl;
-        same = ap (λ (z : List ℕ). grown (wanted node z) (take l₀.len l₀.list)) (ap (sources f node) k ∙ sources-last (entriesOf f.nodes));
+        same = ap (λ (z : List ℕ). grown (wanted node z) (take l₀.len l₀.list)) (ap (sources f node) k ∙ sources_last (entries_of f.nodes));
         most = omega arith;
       }
 
   -- the next entry of the chain is of an earlier row
-  earlier : (a e : ℕ) → a < entriesOf f.nodes → at a ≡ node → e ≡ last at node a
-      → (e + (freshWidth - 1)) / freshWidth ≤ a / freshWidth
+  earlier : (a e : ℕ) → a < entries_of f.nodes → at a ≡ node → e ≡ last at node a
+      → (e + (fresh_width - 1)) / fresh_width ≤ a / fresh_width
   earlier a zero h q k = omega arith
   earlier a (suc b) h q k =
-      let le = last-most at node a in
-      let hit : at b ≡ node = last-is at node a b k in
+      let le = last_most at node a in
+      let hit : at b ≡ node = last_is at node a b k in
       let lt : b < a = omega arith in
-      let ne : b / freshWidth ≡ a / freshWidth → ⊥ = λ z. let v = ch.once.apart b a lt h z (hit ∙ sym q) in omega arith in
+      let ne : b / fresh_width ≡ a / fresh_width → ⊥ = λ z. let v = ch.once.apart b a lt h z (hit ∙ sym q) in omega arith in
       omega arith
 
   -- one entry further: the node of its row went in
-  module _ {l₀ l : Front} {e a e' links : ℕ} (s : Along f node l₀ l e) (z : suc a ≡ e) (v : links ≡ linksAt f.n)
+  module _ {l₀ l : Front} {e a e' links : ℕ} (s : Along f node l₀ l e) (z : suc a ≡ e) (v : links ≡ links_at f.n)
       (q : e' ≡ get_or f.words (links + a) 0) where
     here : at a ≡ node
     here = s.hit a z
@@ -93,41 +93,41 @@ module _ {f : Merging} {node : ℕ} (own : node < f.n) (ch : Chains f) where
         let is = here in
         q ∙ ap (λ (k : ℕ). get_or f.words (k + a) 0) v ∙ ch.chained.nexts a (omega arith) (omega arith) ∙ ap (λ (i : ℕ). last at i a) here
 
-    pub along-on : {l' : List ℕ} {r : ℕ} → Grew (whose a ∷ []) node l.list l' l.len r → length l' ≡ length l.list → Along f node l₀ (front l' r) e'
-    along-on {l'} {r} g size =
+    pub along_on : {l' : List ℕ} {r : ℕ} → Grew (whose a ∷ []) node l.list l' l.len r → length l' ≡ length l.list → Along f node l₀ (front l' r) e'
+    along_on {l'} {r} g size =
         let m = s.most in
         let wi = s.within in
-        let le = last-most at node a in
+        let le = last_most at node a in
         let k = next in
         let er = earlier a e' (omega arith) here next in
         let gm : r ≤ l.len + 1 = g.most in
         record {
           within = omega arith;
-          hit = λ b v. last-is at node a b (v ∙ next);
+          hit = λ b v. last_is at node a b (v ∙ next);
           rises = g.holds.rises;
           size = size ∙ s.size;
           same =
-              ap (λ (i : List ℕ). grown (wanted node i) (take r l')) (ap (sources f node) next ∙ sources-last a)
+              ap (λ (i : List ℕ). grown (wanted node i) (take r l')) (ap (sources f node) next ∙ sources_last a)
               ∙ ap (grown (wanted node (sources f node a))) g.holds.is
-              ∙ sym (grown-cons node (whose a) (sources f node a) (take l.len l.list))
-              ∙ ap (λ (i : List ℕ). grown (wanted node i) (take l.len l.list)) (sym (sources-hit a here) ∙ ap (sources f node) z)
+              ∙ sym (grown_cons node (whose a) (sources f node a) (take l.len l.list))
+              ∙ ap (λ (i : List ℕ). grown (wanted node i) (take l.len l.list)) (sym (sources_hit a here) ∙ ap (sources f node) z)
               ∙ s.same;
           most = omega arith;
         }
 
     -- the chain goes down
-    pub along-less : e' < e
-    along-less = let le = last-most at node a in let k = next in omega arith
+    pub along_less : e' < e
+    along_less = let le = last_most at node a in let k = next in omega arith
 
   nothing : (acc : List ℕ) → grown (wanted node []) acc ≡ acc
   unfolding grown wanted Rattle.batch_ids.specs.Grown.others Rattle.definition.specs.Tables.ids Rattle.definition.specs.Lists.keep
   nothing acc = refl
 
-  pub along-end : {l₀ l : Front} {e : ℕ} → Along f node l₀ l e → (0 < e → ⊥) → NamingAdded f node l₀.len l₀.list l.list l.len
-  along-end {l₀} {l} {e} s h =
+  pub along_end : {l₀ l : Front} {e : ℕ} → Along f node l₀ l e → (0 < e → ⊥) → NamingAdded f node l₀.len l₀.list l.list l.len
+  along_end {l₀} {l} {e} s h =
       let q : e ≡ 0 = omega arith in
       let m = s.most in
-      let left : sources f node e ≡ [] = ap (sources f node) q ∙ sources-none in
+      let left : sources f node e ≡ [] = ap (sources f node) q ∙ sources_none in
       record {
         holds = record {
           is = sym (nothing (take l.len l.list)) ∙ ap (λ (i : List ℕ). grown (wanted node i) (take l.len l.list)) (sym left) ∙ s.same;

@@ -11,9 +11,9 @@ use lib.Dec.{eqb, ltb}
 use lib.ListN.{length, get_or, drop, set, length-set, drop_of_length-le}
 use lib.Seq.{get_or-set_same, get_or-set_other, drop-cons}
 use Rattle.laws.specs.Words.{Below}
-use Rattle.scratch.specs.Layout.{headsAt, linksAt, linksEnd, freshAt}
+use Rattle.scratch.specs.Layout.{heads_at, links_at, links_end, fresh_at}
 use Rattle.given.specs.Fresh.{entry}
-use Rattle.batch_chains.specs.Last.{last, last_none, last-hit, last-miss, last-same, seat, seat-none, seat-hit, seat-miss}
+use Rattle.batch_chains.specs.Last.{last, last_none, last_hit, last_miss, last-same, seat, seat-none, seat_hit, seat_miss}
 use Rattle.batch_chains.specs.Says.{Laid, OneLinked, Kept, Linked, Seated}
 
 differ : (a b : ℕ) → (a ≡ b) ⊎ (a ≡ b → ⊥)
@@ -25,24 +25,24 @@ differ a b = go (eqb a b) refl
 
 -- entry e goes to the front of the chain of t
 abbrev fronted : ℕ → ℕ → ℕ → List ℕ → List ℕ
-fronted n e t w = set (set w (linksAt n + e) (get_or w (headsAt n + t) 0)) (headsAt n + t) (e + 1)
+fronted n e t w = set (set w (links_at n + e) (get_or w (heads_at n + t) 0)) (heads_at n + t) (e + 1)
 
 -- what is read and written, where `f`, `l` and `h` are the offsets that the code asked for
-module _ (n e : ℕ) (w : List ℕ) {f t : ℕ} (q : f ≡ freshAt n) (is : t ≡ get_or w (f + e) 0) where
+module _ (n e : ℕ) (w : List ℕ) {f t : ℕ} (q : f ≡ fresh_at n) (is : t ≡ get_or w (f + e) 0) where
   target : t ≡ entry n w e
   target = is ∙ ap (λ (k : ℕ). get_or w (k + e) 0) q
 
-  pub one-past : n ≤ t → OneLinked n e w w
-  one-past h = let r = target in record { past = λ g. refl; linked = λ g. absurd (omega arith) }
+  pub one_past : n ≤ t → OneLinked n e w w
+  one_past h = let r = target in record { past = λ g. refl; linked = λ g. absurd (omega arith) }
 
-  pub one-linked : {l h : ℕ} → l ≡ linksAt n → h ≡ headsAt n → t < n → OneLinked n e w (set (set w (l + e) (get_or w (h + t) 0)) (h + t) (e + 1))
-  one-linked {l} {h} v u low =
+  pub one_linked : {l h : ℕ} → l ≡ links_at n → h ≡ heads_at n → t < n → OneLinked n e w (set (set w (l + e) (get_or w (h + t) 0)) (h + t) (e + 1))
+  one_linked {l} {h} v u low =
       let r = target in
       record {
         past = λ g. absurd (omega arith);
         linked = λ g.
             ap (λ (k : ℕ). set (set w (k + e) (get_or w (h + t) 0)) (h + t) (e + 1)) v
-            ∙ ap (λ (k : ℕ). set (set w (linksAt n + e) (get_or w (k + t) 0)) (k + t) (e + 1)) u
+            ∙ ap (λ (k : ℕ). set (set w (links_at n + e) (get_or w (k + t) 0)) (k + t) (e + 1)) u
             ∙ ap (λ (k : ℕ). fronted n e k w) r;
       }
 
@@ -50,13 +50,13 @@ module _ (n e : ℕ) (w : List ℕ) {f t : ℕ} (q : f ≡ freshAt n) (is : t �
 pub record Linking (n m : ℕ) (w₀ w : List ℕ) (e : ℕ) : Type 0 where
   pub most : e ≤ m
   pub size : length w ≡ length w₀
-  pub heads : (i : ℕ) → i < n → get_or w (headsAt n + i) 0 ≡ last (entry n w₀) i e
-  pub nexts : (a : ℕ) → a < e → entry n w₀ a < n → get_or w (linksAt n + a) 0 ≡ last (entry n w₀) (entry n w₀ a) a
+  pub heads : (i : ℕ) → i < n → get_or w (heads_at n + i) 0 ≡ last (entry n w₀) i e
+  pub nexts : (a : ℕ) → a < e → entry n w₀ a < n → get_or w (links_at n + a) 0 ≡ last (entry n w₀) (entry n w₀ a) a
   pub kept : Kept n e w₀ w
 
 module _ {n m : ℕ} {w₀ : List ℕ} (laid : Laid n m (length w₀)) where
-  pub linking-start : ((i : ℕ) → i < n → get_or w₀ (headsAt n + i) 0 ≡ 0) → Linking n m w₀ w₀ 0
-  linking-start z =
+  pub linking_start : ((i : ℕ) → i < n → get_or w₀ (heads_at n + i) 0 ≡ 0) → Linking n m w₀ w₀ 0
+  linking_start z =
       record {
         most = omega arith;
         size = refl;
@@ -67,71 +67,71 @@ module _ {n m : ℕ} {w₀ : List ℕ} (laid : Laid n m (length w₀)) where
 
   module _ {w : List ℕ} {e : ℕ} (s : Linking n m w₀ w e) (go_on : e < m) where
     same : entry n w e ≡ entry n w₀ e
-    same = let l = laid.entries in s.kept.above (freshAt n + e) (omega arith)
+    same = let l = laid.entries in s.kept.above (fresh_at n + e) (omega arith)
 
     past : n ≤ entry n w₀ e → Linking n m w₀ w (suc e)
     past h =
         record {
           most = omega arith;
           size = s.size;
-          heads = λ i g. s.heads i g ∙ sym (last-miss (entry n w₀) i e (λ q. omega arith));
+          heads = λ i g. s.heads i g ∙ sym (last_miss (entry n w₀) i e (λ q. omega arith));
           nexts = λ a g t. nx a t (differ a e) g;
           kept = record { below = s.kept.below; between = s.kept.between; above = λ k g. s.kept.above k (omega arith) };
         }
       where
-        nx : (a : ℕ) → entry n w₀ a < n → (a ≡ e) ⊎ (a ≡ e → ⊥) → a < suc e → get_or w (linksAt n + a) 0 ≡ last (entry n w₀) (entry n w₀ a) a
+        nx : (a : ℕ) → entry n w₀ a < n → (a ≡ e) ⊎ (a ≡ e → ⊥) → a < suc e → get_or w (links_at n + a) 0 ≡ last (entry n w₀) (entry n w₀ a) a
         nx a t (inl q) g = let u : entry n w₀ a ≡ entry n w₀ e = ap (entry n w₀) q in absurd (omega arith)
         nx a t (inr q) g = s.nexts a (omega arith) t
 
     module _ (t : ℕ) (at : entry n w₀ e ≡ t) (h : t < n) where
       abbrev head : ℕ
-      head = headsAt n + t
+      head = heads_at n + t
 
       abbrev linked : List ℕ
-      linked = set w (linksAt n + e) (get_or w head 0)
+      linked = set w (links_at n + e) (get_or w head 0)
 
       abbrev new : List ℕ
       new = fronted n e t w
 
-      size-linked : length linked ≡ length w₀
-      size-linked = length-set w (linksAt n + e) (get_or w head 0) ∙ s.size
+      size_linked : length linked ≡ length w₀
+      size_linked = length-set w (links_at n + e) (get_or w head 0) ∙ s.size
 
-      elsewhere : (k : ℕ) → (k ≡ head → ⊥) → (k ≡ linksAt n + e → ⊥) → get_or new k 0 ≡ get_or w k 0
-      elsewhere k p q = get_or-set_other linked head k (e + 1) 0 p ∙ get_or-set_other w (linksAt n + e) k (get_or w head 0) 0 q
+      elsewhere : (k : ℕ) → (k ≡ head → ⊥) → (k ≡ links_at n + e → ⊥) → get_or new k 0 ≡ get_or w k 0
+      elsewhere k p q = get_or-set_other linked head k (e + 1) 0 p ∙ get_or-set_other w (links_at n + e) k (get_or w head 0) 0 q
 
-      here-head : get_or new head 0 ≡ e + 1
-      here-head = let l = laid.high in let z = size-linked in get_or-set_same linked head (e + 1) 0 (omega arith)
+      here_head : get_or new head 0 ≡ e + 1
+      here_head = let l = laid.high in let z = size_linked in get_or-set_same linked head (e + 1) 0 (omega arith)
 
-      here-link : get_or new (linksAt n + e) 0 ≡ get_or w head 0
-      here-link =
+      here_link : get_or new (links_at n + e) 0 ≡ get_or w head 0
+      here_link =
           let b = laid.entries in
           let l = laid.high in
           let z = s.size in
-          get_or-set_other linked head (linksAt n + e) (e + 1) 0 (λ q. omega arith) ∙ get_or-set_same w (linksAt n + e) (get_or w head 0) 0 (omega arith)
+          get_or-set_other linked head (links_at n + e) (e + 1) 0 (λ q. omega arith) ∙ get_or-set_same w (links_at n + e) (get_or w head 0) 0 (omega arith)
 
-      hd : (i : ℕ) → i < n → (i ≡ t) ⊎ (i ≡ t → ⊥) → get_or new (headsAt n + i) 0 ≡ last (entry n w₀) i (suc e)
+      hd : (i : ℕ) → i < n → (i ≡ t) ⊎ (i ≡ t → ⊥) → get_or new (heads_at n + i) 0 ≡ last (entry n w₀) i (suc e)
       hd i g (inl q) =
           let one : e + 1 ≡ suc e = omega arith in
-          ap (λ (k : ℕ). get_or new (headsAt n + k) 0) q ∙ here-head ∙ one ∙ sym (last-hit (entry n w₀) i e (at ∙ sym q))
+          ap (λ (k : ℕ). get_or new (heads_at n + k) 0) q ∙ here_head ∙ one ∙ sym (last_hit (entry n w₀) i e (at ∙ sym q))
       hd i g (inr q) =
-          elsewhere (headsAt n + i) (λ p. q (omega arith)) (λ p. omega arith)
+          elsewhere (heads_at n + i) (λ p. q (omega arith)) (λ p. omega arith)
           ∙ s.heads i g
-          ∙ sym (last-miss (entry n w₀) i e (λ p. q (sym p ∙ at)))
+          ∙ sym (last_miss (entry n w₀) i e (λ p. q (sym p ∙ at)))
 
-      nx : (a : ℕ) → a < suc e → entry n w₀ a < n → (a ≡ e) ⊎ (a ≡ e → ⊥) → get_or new (linksAt n + a) 0 ≡ last (entry n w₀) (entry n w₀ a) a
+      nx : (a : ℕ) → a < suc e → entry n w₀ a < n → (a ≡ e) ⊎ (a ≡ e → ⊥) → get_or new (links_at n + a) 0 ≡ last (entry n w₀) (entry n w₀ a) a
       nx a g u (inl q) =
-          ap (λ (k : ℕ). get_or new (linksAt n + k) 0) q
-          ∙ here-link
+          ap (λ (k : ℕ). get_or new (links_at n + k) 0) q
+          ∙ here_link
           ∙ s.heads t h
           ∙ ap (λ (k : ℕ). last (entry n w₀) k e) (sym at)
           ∙ ap (λ (k : ℕ). last (entry n w₀) (entry n w₀ k) k) (sym q)
-      nx a g u (inr q) = elsewhere (linksAt n + a) (λ p. omega arith) (λ p. q (omega arith)) ∙ s.nexts a (omega arith) u
+      nx a g u (inr q) = elsewhere (links_at n + a) (λ p. omega arith) (λ p. q (omega arith)) ∙ s.nexts a (omega arith) u
 
       stored : Linking n m w₀ new (suc e)
       stored =
           record {
             most = omega arith;
-            size = length-set linked head (e + 1) ∙ size-linked;
+            size = length-set linked head (e + 1) ∙ size_linked;
             heads = λ i g. hd i g (differ i t);
             nexts = λ a g u. nx a g u (differ a e);
             kept = record {
@@ -141,8 +141,8 @@ module _ {n m : ℕ} {w₀ : List ℕ} (laid : Laid n m (length w₀)) where
             };
           }
 
-    pub linking-on : {w' : List ℕ} → OneLinked n e w w' → Linking n m w₀ w' (e + 1)
-    linking-on {w'} o = let q : e + 1 ≡ suc e = omega arith in rw q (cases (ltb (entry n w₀ e) n) refl)
+    pub linking_on : {w' : List ℕ} → OneLinked n e w w' → Linking n m w₀ w' (e + 1)
+    linking_on {w'} o = let q : e + 1 ≡ suc e = omega arith in rw q (cases (ltb (entry n w₀ e) n) refl)
       where
         cases : (b : Bool) → ltb (entry n w₀ e) n ≡ b → Linking n m w₀ w' (suc e)
         cases true p =
@@ -153,12 +153,12 @@ module _ {n m : ℕ} {w₀ : List ℕ} (laid : Laid n m (length w₀)) where
             let le : n ≤ entry n w₀ e = ltb-false _ _ p in
             subst (λ (z : List ℕ). Linking n m w₀ z (suc e)) (sym (o.past (omega (arith, same)))) (past le)
 
-  pub linking-end : {w : List ℕ} {e : ℕ} → Linking n m w₀ w e → (e < m → ⊥) → Linked n m w₀ w
-  linking-end {w} {e} s h =
+  pub linking_end : {w : List ℕ} {e : ℕ} → Linking n m w₀ w e → (e < m → ⊥) → Linked n m w₀ w
+  linking_end {w} {e} s h =
       let few = laid.entries in
       let le = s.most in
       let q : e ≡ m = omega arith in
-      let back : (a : ℕ) → entry n w₀ a ≡ entry n w a = λ a. sym (s.kept.above (freshAt n + a) (omega arith)) in
+      let back : (a : ℕ) → entry n w₀ a ≡ entry n w a = λ a. sym (s.kept.above (fresh_at n + a) (omega arith)) in
       record {
         chained = record {
           heads = λ i g. s.heads i g ∙ last-same (entry n w₀) (entry n w) i e back ∙ ap (last (entry n w) i) q;
@@ -170,8 +170,8 @@ module _ {n m : ℕ} {w₀ : List ℕ} (laid : Laid n m (length w₀)) where
         kept = record { below = s.kept.below; between = s.kept.between; above = λ k g. s.kept.above k (omega arith) };
       }
 
-  pub requires-one : {w : List ℕ} {e : ℕ} → Linking n m w₀ w e → e < m → (n ≤ 65536) × (linksAt n + e < linksEnd n) × (freshAt n + e < length w)
-  requires-one s h =
+  pub requires_one : {w : List ℕ} {e : ℕ} → Linking n m w₀ w e → e < m → (n ≤ 65536) × (links_at n + e < links_end n) × (fresh_at n + e < length w)
+  requires_one s h =
       let a = laid.nodes in
       let b = laid.entries in
       let c = laid.high in
@@ -185,18 +185,18 @@ pub record Seating (nodes s₀ slots : List ℕ) (p : ℕ) : Type 0 where
   pub seats : (i : ℕ) → i < length s₀ → get_or slots i 0 ≡ seat (drop p nodes) i p
 
 module _ {nodes s₀ : List ℕ} where
-  pub seating-start : {p : ℕ} → p ≡ length nodes → ((i : ℕ) → i < length s₀ → get_or s₀ i 0 ≡ 0) → Seating nodes s₀ s₀ p
-  seating-start {p} e z =
+  pub seating_start : {p : ℕ} → p ≡ length nodes → ((i : ℕ) → i < length s₀ → get_or s₀ i 0 ≡ 0) → Seating nodes s₀ s₀ p
+  seating_start {p} e z =
       record {
         most = omega arith;
         size = refl;
         seats = λ i h. z i h ∙ sym (ap (λ (l : List ℕ). seat l i p) (drop_of_length-le nodes {i = p} (omega arith)) ∙ seat-none i p);
       }
 
-  pub seating-on : (p : ℕ) {slots : List ℕ} {u : ℕ} → Seating nodes s₀ slots p → 0 < p → u ≡ get_or nodes (p - 1) 0 → u < length s₀
+  pub seating_on : (p : ℕ) {slots : List ℕ} {u : ℕ} → Seating nodes s₀ slots p → 0 < p → u ≡ get_or nodes (p - 1) 0 → u < length s₀
       → Seating nodes s₀ (set slots u p) (p - 1)
-  seating-on zero {slots} {u} s h e g = absurd (omega arith)
-  seating-on (suc q) {slots} {u} s h e₀ g =
+  seating_on zero {slots} {u} s h e g = absurd (omega arith)
+  seating_on (suc q) {slots} {u} s h e₀ g =
       let k : suc q - 1 ≡ q = omega arith in
       let e : u ≡ get_or nodes q 0 = e₀ ∙ ap (λ (j : ℕ). get_or nodes j 0) k in
       let m = s.most in
@@ -211,22 +211,22 @@ module _ {nodes s₀ : List ℕ} where
           let y = s.size in
           ap (λ (j : ℕ). get_or (set slots u (suc q)) j 0) z
           ∙ get_or-set_same slots u (suc q) 0 (omega arith)
-          ∙ sym (cut (omega arith) i ∙ seat-hit (get_or nodes q 0) (drop (suc q) nodes) i q (z ∙ e))
+          ∙ sym (cut (omega arith) i ∙ seat_hit (get_or nodes q 0) (drop (suc q) nodes) i q (z ∙ e))
       at e i v (inr z) =
           let m = s.most in
           get_or-set_other slots u i (suc q) 0 z
           ∙ s.seats i v
-          ∙ sym (cut (omega arith) i ∙ seat-miss (get_or nodes q 0) (drop (suc q) nodes) i q (λ w. z (w ∙ sym e)))
+          ∙ sym (cut (omega arith) i ∙ seat_miss (get_or nodes q 0) (drop (suc q) nodes) i q (λ w. z (w ∙ sym e)))
 
-  pub seating-end : {slots : List ℕ} {p : ℕ} → Seating nodes s₀ slots p → (0 < p → ⊥) → Seated nodes slots
-  seating-end {slots} {p} s h =
+  pub seating_end : {slots : List ℕ} {p : ℕ} → Seating nodes s₀ slots p → (0 < p → ⊥) → Seated nodes slots
+  seating_end {slots} {p} s h =
       let q : p ≡ 0 = omega arith in
       let y = s.size in
       record { seats = λ i g. s.seats i (omega arith) ∙ ap (λ (k : ℕ). seat (drop k nodes) i k) q }
 
 module _ {nodes s₀ slots : List ℕ} {p u : ℕ} (b : Below (length s₀) nodes) (s : Seating nodes s₀ slots p) (h : 0 < p) (e : u ≡ get_or nodes (p - 1) 0) where
-  pub seat-node : u < length s₀
-  seat-node = let m = s.most in let z = b (p - 1) (omega arith) in omega arith
+  pub seat_node : u < length s₀
+  seat_node = let m = s.most in let z = b (p - 1) (omega arith) in omega arith
 
-  pub seat-fits : u < length slots
-  seat-fits = let z = s.size in let y = seat-node in omega arith
+  pub seat_fits : u < length slots
+  seat_fits = let z = s.size in let y = seat_node in omega arith

@@ -1,8 +1,8 @@
 -- Chains through the lent words, where scratch lays them: the heads of the n ids, and the links, one for each entry of the fresh rows.
 use Rattle.std.specs.Prelude.{ℕ, ◌+◌, ◌/◌, ◌≤◌, ◌<◌, ◌≡◌, List, map, length, get_or, take, set}
-use Rattle.laws.specs.Listed.{freshWidth}
-use Rattle.scratch.specs.Layout.{headsAt, seatsAt, linksAt, linksEnd, freshAt}
-use Rattle.given.specs.Fresh.{Merging, entry, entriesOf}
+use Rattle.laws.specs.Listed.{fresh_width}
+use Rattle.scratch.specs.Layout.{heads_at, seats_at, links_at, links_end, fresh_at}
+use Rattle.given.specs.Fresh.{Merging, entry, entries_of}
 use Rattle.batch_ids.specs.Grown.{grown, wanted}
 use Rattle.batch_ids.specs.Says.{Holds}
 use Rattle.batch_chains.specs.Last.{last, named, seat}
@@ -10,23 +10,23 @@ use Rattle.batch_chains.specs.Last.{last, named, seat}
 -- m entries of the fresh rows lie in `size` words, and each has a link
 pub record Laid (n m size : ℕ) : Type 0 where
   pub nodes : n ≤ 65536
-  pub entries : linksAt n + m ≤ linksEnd n
-  pub high : freshAt n + m ≤ size
+  pub entries : links_at n + m ≤ links_end n
+  pub high : fresh_at n + m ≤ size
 
 pub record OneLinked (n e : ℕ) (w₀ w : List ℕ) : Type 0 where
   pub past : n ≤ entry n w₀ e → w ≡ w₀
-  pub linked : entry n w₀ e < n → w ≡ set (set w₀ (linksAt n + e) (get_or w₀ (headsAt n + entry n w₀ e) 0)) (headsAt n + entry n w₀ e) (e + 1)
+  pub linked : entry n w₀ e < n → w ≡ set (set w₀ (links_at n + e) (get_or w₀ (heads_at n + entry n w₀ e) 0)) (heads_at n + entry n w₀ e) (e + 1)
 
 -- the chains of the first m entries
 pub record Chained (n m : ℕ) (w : List ℕ) : Type 0 where
-  pub heads : (i : ℕ) → i < n → get_or w (headsAt n + i) 0 ≡ last (entry n w) i m
-  pub nexts : (e : ℕ) → e < m → entry n w e < n → get_or w (linksAt n + e) 0 ≡ last (entry n w) (entry n w e) e
+  pub heads : (i : ℕ) → i < n → get_or w (heads_at n + i) 0 ≡ last (entry n w) i m
+  pub nexts : (e : ℕ) → e < m → entry n w e < n → get_or w (links_at n + e) 0 ≡ last (entry n w) (entry n w e) e
 
 -- only heads and links differ
 pub record Kept (n m : ℕ) (w₀ w : List ℕ) : Type 0 where
-  pub below : (k : ℕ) → k < headsAt n → get_or w k 0 ≡ get_or w₀ k 0
-  pub between : (k : ℕ) → seatsAt n ≤ k → k < linksAt n → get_or w k 0 ≡ get_or w₀ k 0
-  pub above : (k : ℕ) → linksAt n + m ≤ k → get_or w k 0 ≡ get_or w₀ k 0
+  pub below : (k : ℕ) → k < heads_at n → get_or w k 0 ≡ get_or w₀ k 0
+  pub between : (k : ℕ) → seats_at n ≤ k → k < links_at n → get_or w k 0 ≡ get_or w₀ k 0
+  pub above : (k : ℕ) → links_at n + m ≤ k → get_or w k 0 ≡ get_or w₀ k 0
 
 pub record Linked (n m : ℕ) (w₀ w : List ℕ) : Type 0 where
   pub chained : Chained n m w
@@ -34,21 +34,21 @@ pub record Linked (n m : ℕ) (w₀ w : List ℕ) : Type 0 where
 
 -- no id stands twice in a fresh row
 pub record Once (n m : ℕ) (w : List ℕ) : Type 0 where
-  pub apart : (a b : ℕ) → a < b → b < m → a / freshWidth ≡ b / freshWidth → entry n w a ≡ entry n w b → n ≤ entry n w b
+  pub apart : (a b : ℕ) → a < b → b < m → a / fresh_width ≡ b / fresh_width → entry n w a ≡ entry n w b → n ≤ entry n w b
 
 -- the chains of all entries of the listed nodes' rows
 pub record Chains (f : Merging) : Type 0 where
-  pub laid : Laid f.n (entriesOf f.nodes) (length f.words)
-  pub chained : Chained f.n (entriesOf f.nodes) f.words
-  pub once : Once f.n (entriesOf f.nodes) f.words
+  pub laid : Laid f.n (entries_of f.nodes) (length f.words)
+  pub chained : Chained f.n (entries_of f.nodes) f.words
+  pub once : Once f.n (entries_of f.nodes) f.words
 
 -- the listed nodes that name i in the first m entries, by the last row first
 unfoldable pub sources : Merging → ℕ → ℕ → List ℕ
-sources f i m = map (λ e. get_or f.nodes (e / freshWidth) 0) (named (entry f.n f.words) i m)
+sources f i m = map (λ e. get_or f.nodes (e / fresh_width) 0) (named (entry f.n f.words) i m)
 
 -- all of them are put among the first len of a list, after which there are r
 pub record NamingAdded (f : Merging) (node len : ℕ) (l₀ l : List ℕ) (r : ℕ) : Type 0 where
-  pub holds : Holds l r (grown (wanted node (sources f node (entriesOf f.nodes))) (take len l₀))
+  pub holds : Holds l r (grown (wanted node (sources f node (entries_of f.nodes))) (take len l₀))
   pub most : r ≤ len + length f.nodes
 
 -- the place of each listed node, one more than it; 0 for all others

@@ -2,14 +2,14 @@
 // heads[id] and links[entry] hold one more than the entry that comes next, 0 at the end. No counting, no offsets, each entry is touched once.
 ghost use Rattle.std.specs.Prelude.{◌≡◌, ℕ, ◌+◌, ◌-◌, ◌≤◌, ◌<◌, length, get_or};
 ghost use Rattle.laws.specs.Words.{Below};
-ghost use Rattle.scratch.specs.Layout.{headsAt, linksAt, linksEnd, freshAt};
+ghost use Rattle.scratch.specs.Layout.{heads_at, links_at, links_end, fresh_at};
 ghost use Rattle.given.specs.Fresh.{merging};
 ghost use Rattle.batch_ids.specs.Says.{Rises};
 ghost use Rattle.batch_chains.specs.Says.{Laid, OneLinked, Linked, Chains, NamingAdded, Seated};
 
 // One entry at the front of its id's chain. Padding is no id.
 fn link_entry(words: &mut [u32], n: usize, e: usize)
-    requires { (n ≤ 65536) × (linksAt n + e < linksEnd n) × (freshAt n + e < length words.old) }
+    requires { (n ≤ 65536) × (links_at n + e < links_end n) × (fresh_at n + e < length words.old) }
     ensures { OneLinked n e words.old words.new }
 {
     let at = scratch::fresh_at(n) + e;
@@ -26,7 +26,7 @@ fn link_entry(words: &mut [u32], n: usize, e: usize)
 // The chains of all m entries, from heads that are all 0.
 pub fn link_entries(words: &mut [u32], n: usize, m: usize)
     requires laid { Laid n m (length words.old) }
-    requires by_index { (i : ℕ) → i < n → get_or words.old (headsAt n + i) 0 ≡ 0 }
+    requires by_index { (i : ℕ) → i < n → get_or words.old (heads_at n + i) 0 ≡ 0 }
     ensures { Linked n m words.old words.new }
 {
     let mut e = 0;

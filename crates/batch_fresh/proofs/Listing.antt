@@ -10,46 +10,46 @@ use lib.ListN.{length, get_or, take, drop, length-take, length-drop}
 use lib.Seq.{drop-drop}
 use Rattle.definition.specs.Lists.{groups}
 use Rattle.definition.specs.Tables.{pad, ids, padded}
-use Rattle.definition.specs.Batch.{Setting, Listed, fresh_of, freshRows}
-use Rattle.laws.specs.Listed.{freshWidth, listed_at}
+use Rattle.definition.specs.Batch.{Setting, Listed, fresh_of, fresh_rows}
+use Rattle.laws.specs.Listed.{fresh_width, listed_at}
 use Rattle.laws.specs.Tables.{ids-of, row_fits}
-use Rattle.laws.specs.Parts.{part, part_length, part_at, within_none, within_wider, within-trans}
+use Rattle.laws.specs.Parts.{part, part_length, part_at, within_none, within_wider, within_trans}
 use Rattle.laws.specs.Words.{Below}
-use Rattle.theory.specs.build.Walks.{node-walks, batch-walks, epochAfter, epochEnd}
-use Rattle.scratch.specs.Layout.{mostFactors, freshAt, freshRowAt}
+use Rattle.theory.specs.build.Walks.{node_walks_lem, batch-walks, epoch_after, epoch_end}
+use Rattle.scratch.specs.Layout.{most_factors, fresh_at, fresh_row_at}
 use Rattle.scratch.specs.Lent.{Lent}
 use Rattle.given.specs.Given.{Given, setting}
-use Rattle.given.specs.Listing.{Listing, walksOf, Listable}
+use Rattle.given.specs.Listing.{Listing, walks_of, Listable}
 use Rattle.given.specs.Fresh.{fresh_row}
-use Rattle.batch_fresh.specs.Made.{Fit, Insertion, insertion, Insertable, inserted, walksFor, freshFor, RowMade, RowsMade, FreshRows}
+use Rattle.batch_fresh.specs.Made.{Fit, Insertion, insertion, Insertable, inserted, walks_for, fresh_for, RowMade, RowsMade, FreshRows}
 
 ids-padded : (width : ℕ) (xs : List ℕ) → ((x : ℕ) → Mem x xs → x ≡ pad → ⊥) → ids (padded width xs) ≡ xs
 unfolding padded
 ids-padded width xs f = ids-of xs (width - length xs) f
 
 -- the listed node at place q, its group of seeds as it is lent
-abbrev lentTo : Given → Listing → ℕ → Insertion
-lentTo g l q = insertion q (get_or l.nodes q 0) l.start (part (q * g.params.extra) (q * g.params.extra + g.params.extra) l.seeds)
+abbrev lent_to : Given → Listing → ℕ → Insertion
+lent_to g l q = insertion q (get_or l.nodes q 0) l.start (part (q * g.params.extra) (q * g.params.extra + g.params.extra) l.seeds)
 
 -- ---- all rows: `t` is the words from the first fresh row on
 module _ (g : Setting) (wide : List ℕ) (start extra : ℕ) where
-  abbrev freshAfter : ℕ → List ℕ → List ℕ
-  freshAfter node seeds = (fresh_of g wide start node (take extra seeds)).fresh
+  abbrev fresh_after : ℕ → List ℕ → List ℕ
+  fresh_after node seeds = (fresh_of g wide start node (take extra seeds)).fresh
 
-  pub listed-rows : (nodes t seeds : List ℕ)
-      → ((q : ℕ) → q < length nodes → ids (take freshWidth (drop (freshWidth * q) t)) ≡ freshAfter (get_or nodes q 0) (drop (q * extra) seeds))
-      → listed_at nodes t ≡ freshRows g wide start nodes (groups (length nodes) extra seeds)
-  unfolding listed_at freshRows groups fresh_of
-  listed-rows [] t seeds f = refl
-  listed-rows (u ∷ us) t seeds f =
+  pub listed_rows : (nodes t seeds : List ℕ)
+      → ((q : ℕ) → q < length nodes → ids (take fresh_width (drop (fresh_width * q) t)) ≡ fresh_after (get_or nodes q 0) (drop (q * extra) seeds))
+      → listed_at nodes t ≡ fresh_rows g wide start nodes (groups (length nodes) extra seeds)
+  unfolding listed_at fresh_rows groups fresh_of
+  listed_rows [] t seeds f = refl
+  listed_rows (u ∷ us) t seeds f =
       ap₂ (λ (x : List ℕ) (l : List Listed). record { node = u; fresh = x } ∷ l)
       (rw (zero-mul extra) at (f 0 (omega arith)))
-      (listed-rows us (drop freshWidth t) (drop extra seeds) (λ q h.
-      let a : freshWidth + freshWidth * q ≡ freshWidth * suc q = omega arith in
+      (listed_rows us (drop fresh_width t) (drop extra seeds) (λ q h.
+      let a : fresh_width + fresh_width * q ≡ fresh_width * suc q = omega arith in
       let b : extra + q * extra ≡ suc q * extra = add_comm extra (q * extra) ∙ sym (suc-mul q extra) in
-      ap (λ (l : List ℕ). ids (take freshWidth l)) (drop-drop (freshWidth * q) freshWidth t ∙ ap (λ (k : ℕ). drop k t) a)
+      ap (λ (l : List ℕ). ids (take fresh_width l)) (drop-drop (fresh_width * q) fresh_width t ∙ ap (λ (k : ℕ). drop k t) a)
       ∙ f (suc q) (omega arith)
-      ∙ sym (ap (freshAfter (get_or us q 0)) (drop-drop (q * extra) extra seeds ∙ ap (λ (k : ℕ). drop k seeds) b))))
+      ∙ sym (ap (fresh_after (get_or us q 0)) (drop-drop (q * extra) extra seeds ∙ ap (λ (k : ℕ). drop k seeds) b))))
 
 module _ (g : Given) (wide : List ℕ) (l : Listing) (before : Lent) where
   pub rows_none : RowsMade g wide l before before 0
@@ -57,18 +57,18 @@ module _ (g : Given) (wide : List ℕ) (l : Listing) (before : Lent) where
       record {
         rows = λ q h. absurd (omega arith);
         fits = λ q h. absurd (omega arith);
-        words-kept = within_none 0 (freshRowAt g.n 0) before.words;
-        floats-kept = within_none 0 mostFactors before.floats;
+        words_kept = within_none 0 (fresh_row_at g.n 0) before.words;
+        floats_kept = within_none 0 most_factors before.floats;
       }
 
 module _ {g : Given} {wide : List ℕ} {l : Listing} {before at : Lent} {k : ℕ} (m : RowsMade g wide l before at k) where
   module _ {after : Lent} (r : RowMade g wide (inserted g l k) at after) where
-    row_at : (q : ℕ) → (q ≡ k) ⊎ (q < k) → fresh_row g.n q after.words ≡ padded freshWidth (freshFor g wide (inserted g l q))
-    row_at q (inl e) = subst (λ (j : ℕ). fresh_row g.n j after.words ≡ padded freshWidth (freshFor g wide (inserted g l j))) (sym e) r.row
+    row_at : (q : ℕ) → (q ≡ k) ⊎ (q < k) → fresh_row g.n q after.words ≡ padded fresh_width (fresh_for g wide (inserted g l q))
+    row_at q (inl e) = subst (λ (j : ℕ). fresh_row g.n j after.words ≡ padded fresh_width (fresh_for g wide (inserted g l j))) (sym e) r.row
     row_at q (inr h) = r.earlier q h ∙ m.rows q h
 
-    fit_at : (q : ℕ) → (q ≡ k) ⊎ (q < k) → Fit g.n (get_or l.nodes q 0) (freshFor g wide (inserted g l q))
-    fit_at q (inl e) = subst (λ (j : ℕ). Fit g.n (get_or l.nodes j 0) (freshFor g wide (inserted g l j))) (sym e) r.fit
+    fit_at : (q : ℕ) → (q ≡ k) ⊎ (q < k) → Fit g.n (get_or l.nodes q 0) (fresh_for g wide (inserted g l q))
+    fit_at q (inl e) = subst (λ (j : ℕ). Fit g.n (get_or l.nodes j 0) (fresh_for g wide (inserted g l j))) (sym e) r.fit
     fit_at q (inr h) = m.fits q h
 
     le_of : (q : ℕ) → q < k + 1 → q ≤ k
@@ -76,41 +76,41 @@ module _ {g : Given} {wide : List ℕ} {l : Listing} {before at : Lent} {k : ℕ
 
     rows_next : RowsMade g wide l before after (k + 1)
     rows_next =
-        let end = freshRowAt g.n (k + 1) in
+        let end = fresh_row_at g.n (k + 1) in
         record {
           rows = λ q h. row_at q (eq-or-lt_of_le (le_of q h));
           fits = λ q h. fit_at q (eq-or-lt_of_le (le_of q h));
-          words-kept =
-              within-trans 0 end before.words at.words after.words
-              (within_wider 0 (freshRowAt g.n k) before.words at.words m.words-kept 0 end (omega arith) (omega arith))
-              (within_wider 0 (freshRowAt g.n k + freshWidth) at.words after.words r.words-kept 0 end (omega arith) (omega arith));
-          floats-kept = within-trans 0 mostFactors before.floats at.floats after.floats m.floats-kept r.floats-kept;
+          words_kept =
+              within_trans 0 end before.words at.words after.words
+              (within_wider 0 (fresh_row_at g.n k) before.words at.words m.words_kept 0 end (omega arith) (omega arith))
+              (within_wider 0 (fresh_row_at g.n k + fresh_width) at.words after.words r.words_kept 0 end (omega arith) (omega arith));
+          floats_kept = within_trans 0 most_factors before.floats at.floats after.floats m.floats_kept r.floats_kept;
         }
 
-  lent-group : (lentTo g l k).seeds ≡ (inserted g l k).seeds
-  lent-group = rw add-sub_cancel_left refl
+  lent_group : (lent_to g l k).seeds ≡ (inserted g l k).seeds
+  lent_group = rw add-sub_cancel_left refl
 
-  pub rows_more : {after : Lent} → RowMade g wide (lentTo g l k) at after → RowsMade g wide l before after (k + 1)
-  rows_more {after} r = rows_next (subst (λ (s : List ℕ). RowMade g wide (insertion k (get_or l.nodes k 0) l.start s) at after) lent-group r)
+  pub rows_more : {after : Lent} → RowMade g wide (lent_to g l k) at after → RowsMade g wide l before after (k + 1)
+  rows_more {after} r = rows_next (subst (λ (s : List ℕ). RowMade g wide (insertion k (get_or l.nodes k 0) l.start s) at after) lent_group r)
 
   module _ (small : g.n ≤ 65536) (all : k ≡ length l.nodes) where
-    no-pad : (x : ℕ) → x < g.n → x ≡ pad → ⊥
+    no_pad : (x : ℕ) → x < g.n → x ≡ pad → ⊥
     unfolding pad
-    no-pad x h e = omega arith
+    no_pad x h e = omega arith
 
-    ids_at : (q : ℕ) → q < k → ids (take freshWidth (drop (freshWidth * q) (drop (freshAt g.n) at.words))) ≡ freshFor g wide (inserted g l q)
+    ids_at : (q : ℕ) → q < k → ids (take fresh_width (drop (fresh_width * q) (drop (fresh_at g.n) at.words))) ≡ fresh_for g wide (inserted g l q)
     ids_at q h =
-        let w : freshWidth ≡ (freshRowAt g.n q + freshWidth) - freshRowAt g.n q = omega arith in
-        ap (λ (l : List ℕ). ids (take freshWidth l)) (drop-drop (freshWidth * q) (freshAt g.n) at.words)
-        ∙ ap (λ (j : ℕ). ids (take j (drop (freshRowAt g.n q) at.words))) w
+        let w : fresh_width ≡ (fresh_row_at g.n q + fresh_width) - fresh_row_at g.n q = omega arith in
+        ap (λ (l : List ℕ). ids (take fresh_width l)) (drop-drop (fresh_width * q) (fresh_at g.n) at.words)
+        ∙ ap (λ (j : ℕ). ids (take j (drop (fresh_row_at g.n q) at.words))) w
         ∙ ap ids (m.rows q h)
-        ∙ ids-padded freshWidth (freshFor g wide (inserted g l q)) (λ x i. no-pad x ((m.fits q h).below x i))
+        ∙ ids-padded fresh_width (fresh_for g wide (inserted g l q)) (λ x i. no_pad x ((m.fits q h).below x i))
 
     pub rows_all : FreshRows g wide l before at
-    unfolding freshFor
+    unfolding fresh_for
     rows_all =
         record {
-          are = listed-rows (setting g) wide l.start g.params.extra l.nodes (drop (freshAt g.n) at.words) l.seeds
+          are = listed_rows (setting g) wide l.start g.params.extra l.nodes (drop (fresh_at g.n) at.words) l.seeds
               (λ q h. ids_at q (omega arith));
           made = subst (RowsMade g wide l before at) all m;
         }
@@ -122,15 +122,15 @@ group-below n a e l b k h =
     let t : length (part a e l) ≤ length l - a = omega (arith, length-take (e - a) (drop a l), length-drop a l) in
     subst (λ (x : ℕ). x < n) (sym (part_at a e l k 0 (omega arith))) (b (a + k) (omega arith))
 
-pub insertable : {g : Given} {l : Listing} (p : ℕ) → Listable g l → p < length l.nodes → Insertable g (lentTo g l p)
+pub insertable : {g : Given} {l : Listing} (p : ℕ) → Listable g l → p < length l.nodes → Insertable g (lent_to g l p)
 insertable {g} {l} p r h =
     let few = r.few in
     let a = p * g.params.extra in
     record {
       place_in = omega arith;
-      node_in = r.nodes-in p h;
-      start-in = r.start-in;
-      seeds-in = group-below g.n a (a + g.params.extra) l.seeds r.seeds-in;
+      node_in = r.nodes_in p h;
+      start_in = r.start_in;
+      seeds_in = group-below g.n a (a + g.params.extra) l.seeds r.seeds_in;
     }
 
 -- ---- the epoch: one and its seeds for each node
@@ -138,27 +138,27 @@ module _ {g : Given} {l : Listing} (ok : Listable g l) (wide : List ℕ) where
   abbrev extra : ℕ
   extra = g.params.extra
 
-  all-walks : length (walksOf g wide l) ≡ length l.nodes + length l.nodes * extra
-  all-walks = batch-walks wide l.start extra l.nodes l.seeds ok.groups ∙ ap (λ (k : ℕ). length l.nodes + k) ok.groups
+  all_walks : length (walks_of g wide l) ≡ length l.nodes + length l.nodes * extra
+  all_walks = batch-walks wide l.start extra l.nodes l.seeds ok.groups ∙ ap (λ (k : ℕ). length l.nodes + k) ok.groups
 
   module _ (epoch p : ℕ) {last : ℕ} (is : last ≡ epoch + (p + p * extra)) where
     module _ (more : p < length l.nodes) where
       -- its group is whole
-      group-ends : p * extra + extra ≤ length l.nodes * extra
-      group-ends = row_fits p (length l.nodes) extra more
+      group_ends : p * extra + extra ≤ length l.nodes * extra
+      group_ends = row_fits p (length l.nodes) extra more
 
-      next-walks : length (walksFor wide (lentTo g l p)) ≡ 1 + extra
-      next-walks =
+      next_walks : length (walks_for wide (lent_to g l p)) ≡ 1 + extra
+      next_walks =
           let size = ok.groups in
-          let ends = group-ends in
+          let ends = group_ends in
           let group = part_length (p * extra) (p * extra + extra) l.seeds (omega arith) in
-          omega (arith, node-walks wide l.start (get_or l.nodes p 0) (lentTo g l p).seeds)
+          omega (arith, node_walks_lem wide l.start (get_or l.nodes p 0) (lent_to g l p).seeds)
 
-      pub epoch-room : epochAfter epoch (walksOf g wide l) < epochEnd → epochAfter last (walksFor wide (lentTo g l p)) < epochEnd
-      epoch-room room = omega (arith, all-walks, next-walks, group-ends)
+      pub epoch_room : epoch_after epoch (walks_of g wide l) < epoch_end → epoch_after last (walks_for wide (lent_to g l p)) < epoch_end
+      epoch_room room = omega (arith, all_walks, next_walks, group_ends)
 
-      pub epoch-more : {r : ℕ} → r ≡ epochAfter last (walksFor wide (lentTo g l p)) → r ≡ epoch + ((p + 1) + (p + 1) * extra)
-      epoch-more e = let one : (p + 1) * extra ≡ p * extra + extra = rw (add-one p) (suc-mul p extra) in omega (arith, next-walks)
+      pub epoch_more : {r : ℕ} → r ≡ epoch_after last (walks_for wide (lent_to g l p)) → r ≡ epoch + ((p + 1) + (p + 1) * extra)
+      epoch_more e = let one : (p + 1) * extra ≡ p * extra + extra = rw (add-one p) (suc-mul p extra) in omega (arith, next_walks)
 
-    pub epoch-all : p ≡ length l.nodes → last ≡ epochAfter epoch (walksOf g wide l)
-    epoch-all all = let q : p * extra ≡ length l.nodes * extra = ap (λ (k : ℕ). k * extra) all in omega (arith, all-walks)
+    pub epoch_all : p ≡ length l.nodes → last ≡ epoch_after epoch (walks_of g wide l)
+    epoch_all all = let q : p * extra ≡ length l.nodes * extra = ap (λ (k : ℕ). k * extra) all in omega (arith, all_walks)

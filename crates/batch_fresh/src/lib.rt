@@ -1,13 +1,13 @@
 // Part 6, the fresh rows: for each listed node its pool, and the row pruned from it, within the two slices of scratch.
 ghost use Rattle.std.specs.Prelude.{◌≡◌, ◌+◌, ◌≤◌, ◌<◌, length};
-ghost use Rattle.scratch.specs.Layout.{mostFactors};
+ghost use Rattle.scratch.specs.Layout.{most_factors};
 ghost use Rattle.scratch.specs.Lent.{lent};
 ghost use Rattle.given.specs.Given.{given, WalkLimits, Wide};
-ghost use Rattle.given.specs.Listing.{listing, walksOf, Listable};
-ghost use Rattle.theory.specs.build.Walks.{epochAfter, epochEnd};
+ghost use Rattle.given.specs.Listing.{listing, walks_of, Listable};
+ghost use Rattle.theory.specs.build.Walks.{epoch_after, epoch_end};
 ghost use Rattle.marks.specs.Marked.{Marks};
-ghost use Rattle.batch_fresh.specs.Made.{Between, insertion, Insertable, walksFor, NodePool, RowMade, FreshRows};
-ghost use Rattle.batch_fresh.specs.Says.{Prunable, prunedFor, Fresh};
+ghost use Rattle.batch_fresh.specs.Made.{Between, insertion, Insertable, walks_for, NodePool, RowMade, FreshRows};
+ghost use Rattle.batch_fresh.specs.Says.{Prunable, pruned_for, Fresh};
 
 use batch_pool::{Collected, collect_pool};
 use given::Ground;
@@ -27,7 +27,7 @@ fn prune_fresh(
     floats: &mut [f32],
 )
     requires { Prunable (given g vectors.now) place len (lent words.old floats.old) }
-    ensures { Fresh g.n place (prunedFor (given g vectors.now) node len words.old)
+    ensures { Fresh g.n place (pruned_for (given g vectors.now) node len words.old)
         (lent words.old floats.old) (lent words.new floats.new) }
 {
     let mut row = [0u32; scratch::FRESH_WIDTH];
@@ -67,10 +67,10 @@ fn node_pool(
     requires wide { Wide (given g vectors.now) wide.now }
     requires between { Between (given g vectors.now) epoch p words.old }
     requires insertable { Insertable (given g vectors.now) (insertion p node start seeds.now) }
-    requires seeds_bound { epochAfter epoch (walksFor wide.now (insertion p node start seeds.now)) < epochEnd }
+    requires seeds_bound { epoch_after epoch (walks_for wide.now (insertion p node start seeds.now)) < epoch_end }
     ensures node_pool { NodePool (given g vectors.now) wide.now (insertion p node start seeds.now)
         words.old words.new result }
-    ensures epoch_value { result.epoch ≡ epochAfter epoch (walksFor wide.now (insertion p node start seeds.now)) }
+    ensures epoch_value { result.epoch ≡ epoch_after epoch (walks_for wide.now (insertion p node start seeds.now)) }
 {
     let dim = g.dim;
     let at = node * dim;
@@ -113,13 +113,13 @@ fn fresh_row(
     requires walk_limits { WalkLimits (given g vectors.now) }
     requires wide { Wide (given g vectors.now) wide.now }
     requires between { Between (given g vectors.now) epoch p words.old }
-    requires most_factors_in_bounds { mostFactors ≤ length floats.old }
+    requires most_factors_in_bounds { most_factors ≤ length floats.old }
     requires insertable { Insertable (given g vectors.now) (insertion p node start seeds.now) }
-    requires seeds_bound { epochAfter epoch (walksFor wide.now (insertion p node start seeds.now)) < epochEnd }
+    requires seeds_bound { epoch_after epoch (walks_for wide.now (insertion p node start seeds.now)) < epoch_end }
     ensures row_made { RowMade (given g vectors.now) wide.now (insertion p node start seeds.now)
         (lent words.old floats.old) (lent words.new floats.new) }
     ensures between_2 { Between (given g vectors.now) result (p + 1) words.new }
-    ensures value { result ≡ epochAfter epoch (walksFor wide.now (insertion p node start seeds.now)) }
+    ensures value { result ≡ epoch_after epoch (walks_for wide.now (insertion p node start seeds.now)) }
 {
     let u = node as usize;
     let c = node_pool(g, vectors, epoch, p, u, start, seeds, wide, words);
@@ -143,13 +143,13 @@ pub fn fresh_rows(
     requires wide { Wide (given g vectors.now) wide.now }
     requires listable { Listable (given g vectors.now) (listing start nodes.now seeds.now) }
     requires between { Between (given g vectors.now) epoch 0 words.old }
-    requires most_factors_in_bounds { mostFactors ≤ length floats.old }
-    requires seeds_bound { epochAfter epoch (walksOf (given g vectors.now) wide.now (listing start nodes.now seeds.now)) < epochEnd }
+    requires most_factors_in_bounds { most_factors ≤ length floats.old }
+    requires seeds_bound { epoch_after epoch (walks_of (given g vectors.now) wide.now (listing start nodes.now seeds.now)) < epoch_end }
     ensures fresh_rows { FreshRows (given g vectors.now) wide.now (listing start nodes.now seeds.now)
         (lent words.old floats.old) (lent words.new floats.new) }
     ensures marks { Marks g.n words.new result }
-    ensures value { result ≡ epochAfter epoch
-        (walksOf (given g vectors.now) wide.now (listing start nodes.now seeds.now)) }
+    ensures value { result ≡ epoch_after epoch
+        (walks_of (given g vectors.now) wide.now (listing start nodes.now seeds.now)) }
 {
     let extra = g.params.extra;
     let mut last = epoch;

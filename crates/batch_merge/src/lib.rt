@@ -1,10 +1,10 @@
 // Part 6, the merge of a batch: chains and seats are made in the scratch, and then each affected row is written anew, in place.
 ghost use Rattle.std.specs.Prelude.{◌≡◌, ◌+◌, ◌*◌, ◌≤◌, ◌<◌, length};
 ghost use Rattle.definition.specs.Batch.{affected, merged};
-ghost use Rattle.scratch.specs.Layout.{mostFactors};
+ghost use Rattle.scratch.specs.Layout.{most_factors};
 ghost use Rattle.given.specs.Given.{given, setting, Limits, Wide};
 ghost use Rattle.given.specs.Held.{held};
-ghost use Rattle.given.specs.Fresh.{merging, listedIn};
+ghost use Rattle.given.specs.Fresh.{merging, listed_in};
 ghost use Rattle.batch_merge.specs.Says.{Unlinked, AllLinked, Gatherable, RowReady, RowMerged, MergeReady, Merged};
 
 use given::Ground;
@@ -27,7 +27,7 @@ fn link(words: &mut [u32], n: usize, nodes: &[u32])
 fn is_affected(words: &[u32], n: usize, nodes: &[u32], i: usize) -> bool
     requires i_lt_n { i < n }
     requires gatherable { Gatherable (merging n nodes.now words.now) }
-    ensures { result ≡ affected (listedIn (merging n nodes.now words.now)) i }
+    ensures { result ≡ affected (listed_in (merging n nodes.now words.now)) i }
 {
     let seat = scratch::seats_at(n) + i;
     if words[seat] != 0 {
@@ -48,7 +48,7 @@ fn merge_row(
     factors: &mut [f32],
 )
     requires row_ready { RowReady (given g vectors.now) (merging g.n nodes.now words.now) i wide.old }
-    requires most_factors_in_bounds { mostFactors ≤ length factors.old }
+    requires most_factors_in_bounds { most_factors ≤ length factors.old }
     ensures { RowMerged (given g vectors.now) (merging g.n nodes.now words.now)
         i wide.old wide.new }
 {
@@ -77,12 +77,12 @@ fn merge_rows(
     words: &[u32],
     factors: &mut [f32],
 )
-    requires most_factors_in_bounds { mostFactors ≤ length factors.old }
+    requires most_factors_in_bounds { most_factors ≤ length factors.old }
     requires limits { Limits (given g vectors.now) }
     requires gatherable { Gatherable (merging g.n nodes.now words.now) }
     requires wide { Wide (given g vectors.now) wide.old }
     ensures { wide.new ≡ merged (setting (given g vectors.now)) wide.old
-        (listedIn (merging g.n nodes.now words.now)) }
+        (listed_in (merging g.n nodes.now words.now)) }
 {
     let n = g.n;
     let mut i = 0;

@@ -9,17 +9,17 @@ use lib.Seq.{take-suc, take_all}
 use Rattle.definition.specs.Lists.{joined}
 use Rattle.definition.specs.Tables.{ids}
 use Rattle.laws.specs.Members.{joined_snoc}
-use Rattle.laws.specs.Parts.{part, Within, within-above, within_wider, within-trans, within_none}
+use Rattle.laws.specs.Parts.{part, Within, within_above, within_wider, within_trans, within_none}
 use Rattle.laws.specs.Tables.{part-row}
-use Rattle.scratch.specs.Layout.{poolAt, poolEnd}
+use Rattle.scratch.specs.Layout.{pool_at, pool_end}
 use Rattle.greedy.specs.declared.Plan.{Plan}
 use Rattle.greedy.specs.declared.Walked.{Walked}
-use Rattle.greedy.specs.Scratch.{walk_of, walk-end-all, Walks}
-use Rattle.batch_pool.specs.Pooled.{poolAs, Pooled, Added}
-use Rattle.batch_pool.specs.Regions.{Walkable, Stage, stage, poolWordsOf, poolOf, seenOf, Seen, SeenBelow, Filled, Holding, Grown, visits, pooledIds}
+use Rattle.greedy.specs.Scratch.{walk_of, walk_end_all, Walks}
+use Rattle.batch_pool.specs.Pooled.{pool_as, Pooled, Added}
+use Rattle.batch_pool.specs.Regions.{Walkable, Stage, stage, pool_words_of, pool_of, seen_of, Seen, SeenBelow, Filled, Holding, Grown, visits, pooled_ids}
 use Rattle.batch_pool.proofs.Adding.{added_none, added_then}
-use Rattle.batch_pool.proofs.Lending.{returned, words-lent, added-lent, room-kept}
-use Rattle.batch_pool.proofs.Visits.{seen_below, seen-known, seen-visits}
+use Rattle.batch_pool.proofs.Lending.{returned, words_lent, added_lent, room_kept}
+use Rattle.batch_pool.proofs.Visits.{seen_below, seen_known, seen_visits}
 
 -- ---- a walk, and what it visited
 module _ {p : Plan} {vectors query table : List ℕ} (w : Walkable p vectors query table) (d : ℕ → ℕ) (start : ℕ) (low : start < p.n) {epoch : ℕ} {s₀ : Stage}
@@ -32,41 +32,41 @@ module _ {p : Plan} {vectors query table : List ℕ} (w : Walkable p vectors que
   s₁ = stage after s₀.stamp s₀.len
 
   -- a walk that keeps what it visits ends where the pool begins
-  walk_kept : Within 0 (poolAt n) s₀.words after
-  walk_kept = subst (λ (e : ℕ). Within 0 e s₀.words after) (walk-end-all p w.keeps) k.words-kept
+  walk_kept : Within 0 (pool_at n) s₀.words after
+  walk_kept = subst (λ (e : ℕ). Within 0 e s₀.words after) (walk_end_all p w.keeps) k.words_kept
 
-  pool-same : poolWordsOf n after ≡ poolWordsOf n s₀.words
-  pool-same = within-above 0 (poolAt n) s₀.words after walk_kept (poolAt n) (poolEnd n) (omega arith)
+  pool_same : pool_words_of n after ≡ pool_words_of n s₀.words
+  pool_same = within_above 0 (pool_at n) s₀.words after walk_kept (pool_at n) (pool_end n) (omega arith)
 
-  walked-room : poolEnd n ≤ length after
-  walked-room = omega (arith, walk_kept.size, h.pool-room)
+  walked_room : pool_end n ≤ length after
+  walked_room = omega (arith, walk_kept.size, h.pool_room)
 
-  pub walked : Pooled n (poolOf n s₁) × (((n ≤ 65536) × (poolEnd n ≤ length after) × (r.visited ≤ n)) × SeenBelow n after r.visited)
+  pub walked : Pooled n (pool_of n s₁) × (((n ≤ 65536) × (pool_end n ≤ length after) × (r.visited ≤ n)) × SeenBelow n after r.visited)
   walked = (
-    rw pool-same h.pooled,
-    ((h.room.space.nodes, walked-room, k.visited-le), seen_below p w.keeps table w.rows d start low k),
+    rw pool_same h.pooled,
+    ((h.room.space.nodes, walked_room, k.visited_le), seen_below p w.keeps table w.rows d start low k),
   )
 
-  pub grown-walk : {s : Stage} → Filled n s₁ s r.visited → Grown p r.epoch s₀ s (visits p d table start) d
-  grown-walk {s} g =
+  pub grown_walk : {s : Stage} → Filled n s₁ s r.visited → Grown p r.epoch s₀ s (visits p d table start) d
+  grown_walk {s} g =
       record {
         holding =
             record {
-              room = room-kept p r.epoch (poolEnd n) after s.words k.room g.kept;
-              pool-room = omega (arith, g.kept.size, walked-room);
+              room = room_kept p r.epoch (pool_end n) after s.words k.room g.kept;
+              pool_room = omega (arith, g.kept.size, walked_room);
               pooled = g.added.pooled;
             };
-        added = rw (sym pool-same, sym (seen-visits p w.keeps table w.rows d start low k)) own;
+        added = rw (sym pool_same, sym (seen_visits p w.keeps table w.rows d start low k)) own;
         kept =
-            within-trans 0 (poolEnd n) s₀.words after s.words
-            (within_wider 0 (poolAt n) s₀.words after walk_kept 0 (poolEnd n) (omega arith) (omega arith))
-            (within_wider (poolAt n) (poolEnd n) after s.words g.kept 0 (poolEnd n) (omega arith) (omega arith));
+            within_trans 0 (pool_end n) s₀.words after s.words
+            (within_wider 0 (pool_at n) s₀.words after walk_kept 0 (pool_end n) (omega arith) (omega arith))
+            (within_wider (pool_at n) (pool_end n) after s.words g.kept 0 (pool_end n) (omega arith) (omega arith));
       }
     where
       known : Seen n after r.visited d
-      known = seen-known p w.keeps table w.rows d start low k
+      known = seen_known p w.keeps table w.rows d start low k
 
-      own : Added n (poolOf n s₁) (poolOf n s) (take r.visited (seenOf n after)) (λ f. f ≡ d)
+      own : Added n (pool_of n s₁) (pool_of n s) (take r.visited (seen_of n after)) (λ f. f ≡ d)
       own =
           record {
             pooled = g.added.pooled;
@@ -76,37 +76,37 @@ module _ {p : Plan} {vectors query table : List ℕ} (w : Walkable p vectors que
 
 -- ---- none, and one after another
 module _ (p : Plan) (d : ℕ → ℕ) where
-  pub grown-none : (epoch : ℕ) (s : Stage) → Holding p epoch s → Grown p epoch s s [] d
-  grown-none epoch s h = record { holding = h; added = added_none (λ f. f ≡ d) h.pooled; kept = within_none 0 (poolEnd p.n) s.words }
+  pub grown_none : (epoch : ℕ) (s : Stage) → Holding p epoch s → Grown p epoch s s [] d
+  grown_none epoch s h = record { holding = h; added = added_none (λ f. f ≡ d) h.pooled; kept = within_none 0 (pool_end p.n) s.words }
 
-  pub grown-then : (e₁ e₂ : ℕ) (s₀ s₁ s₂ : Stage) (xs ys : List ℕ) → Grown p e₁ s₀ s₁ xs d → Grown p e₂ s₁ s₂ ys d → Grown p e₂ s₀ s₂ (xs ++ ys) d
-  grown-then e₁ e₂ s₀ s₁ s₂ xs ys g h =
+  pub grown_then : (e₁ e₂ : ℕ) (s₀ s₁ s₂ : Stage) (xs ys : List ℕ) → Grown p e₁ s₀ s₁ xs d → Grown p e₂ s₁ s₂ ys d → Grown p e₂ s₀ s₂ (xs ++ ys) d
+  grown_then e₁ e₂ s₀ s₁ s₂ xs ys g h =
       record {
         holding = h.holding;
         added = added_then (λ f. f ≡ d) g.added h.added (λ f q. q) (λ f q. q);
-        kept = within-trans 0 (poolEnd p.n) s₀.words s₁.words s₂.words g.kept h.kept;
+        kept = within_trans 0 (pool_end p.n) s₀.words s₁.words s₂.words g.kept h.kept;
       }
 
   -- the row was added to the pool's region, lent as a part
-  pub grown-row : (epoch : ℕ) (s : Stage) (h : Holding p epoch s) (pool : List ℕ) (same : length pool ≡ length (poolWordsOf p.n s.words)) (r : ℕ)
-      (xs : List ℕ) → Added p.n (poolOf p.n s) (poolAs pool s.stamp r) xs (λ f. f ≡ d) → Grown p epoch s (returned p.n s pool r) xs d
-  grown-row epoch s h pool same r xs a =
-      let w = words-lent p.n s pool h.pool-room same in
-      let b = added-lent p.n s pool h.pool-room same r a in
+  pub grown_row : (epoch : ℕ) (s : Stage) (h : Holding p epoch s) (pool : List ℕ) (same : length pool ≡ length (pool_words_of p.n s.words)) (r : ℕ)
+      (xs : List ℕ) → Added p.n (pool_of p.n s) (pool_as pool s.stamp r) xs (λ f. f ≡ d) → Grown p epoch s (returned p.n s pool r) xs d
+  grown_row epoch s h pool same r xs a =
+      let w = words_lent p.n s pool h.pool_room same in
+      let b = added_lent p.n s pool h.pool_room same r a in
       record {
         holding =
             record {
-              room = room-kept p epoch (poolEnd p.n) s.words _ h.room w;
-              pool-room = omega (arith, w.size, h.pool-room);
+              room = room_kept p epoch (pool_end p.n) s.words _ h.room w;
+              pool_room = omega (arith, w.size, h.pool_room);
               pooled = b.pooled;
             };
         added = b;
-        kept = within_wider (poolAt p.n) (poolEnd p.n) s.words _ w 0 (poolEnd p.n) (omega arith) (omega arith);
+        kept = within_wider (pool_at p.n) (pool_end p.n) s.words _ w 0 (pool_end p.n) (omega arith) (omega arith);
       }
 
 -- ---- the lists of several walks
-pub joined-next : (f : ℕ → List ℕ) (l : List ℕ) (k : ℕ) → k < length l → joined (map f (take (k + 1) l)) ≡ joined (map f (take k l)) ++ f (get_or l k 0)
-joined-next f l k h = rw (add-one k, take-suc l k 0 h) (joined_snoc f (take k l) (get_or l k 0))
+pub joined_next : (f : ℕ → List ℕ) (l : List ℕ) (k : ℕ) → k < length l → joined (map f (take (k + 1) l)) ≡ joined (map f (take k l)) ++ f (get_or l k 0)
+joined_next f l k h = rw (add-one k, take-suc l k 0 h) (joined_snoc f (take k l) (get_or l k 0))
 
 pub joined-all : (f : ℕ → List ℕ) (l : List ℕ) (k : ℕ) → length l ≤ k → joined (map f (take k l)) ≡ joined (map f l)
 joined-all f l k h = ap (λ (z : List ℕ). joined (map f z)) (take_all k l h)
@@ -117,9 +117,9 @@ joined-none f = refl
 
 -- ---- the row, the walk from the start, the walks from the seeds
 module _ (p : Plan) (d : ℕ → ℕ) (wide : List ℕ) (node start : ℕ) (seeds : List ℕ) (e₁ e₂ e₃ : ℕ) (s₀ s₁ s₂ s₃ : Stage) where
-  pub grown-pool : Grown p e₁ s₀ s₁ (ids (part (node * p.width) (node * p.width + p.width) wide)) d → Grown p e₂ s₁ s₂ (visits p d wide start) d
-      → Grown p e₃ s₂ s₃ (joined (map (visits p d wide) seeds)) d → Grown p e₃ s₀ s₃ (pooledIds p d wide node start seeds) d
-  unfolding pooledIds joined
-  grown-pool a b c =
-      grown-then p d e₁ e₃ s₀ s₁ s₃ _ _ (subst (λ (l : List ℕ). Grown p e₁ s₀ s₁ (ids l) d) (part-row p.width wide node) a)
-      (grown-then p d e₂ e₃ s₁ s₂ s₃ _ _ b c)
+  pub grown_pool : Grown p e₁ s₀ s₁ (ids (part (node * p.width) (node * p.width + p.width) wide)) d → Grown p e₂ s₁ s₂ (visits p d wide start) d
+      → Grown p e₃ s₂ s₃ (joined (map (visits p d wide) seeds)) d → Grown p e₃ s₀ s₃ (pooled_ids p d wide node start seeds) d
+  unfolding pooled_ids joined
+  grown_pool a b c =
+      grown_then p d e₁ e₃ s₀ s₁ s₃ _ _ (subst (λ (l : List ℕ). Grown p e₁ s₀ s₁ (ids l) d) (part-row p.width wide node) a)
+      (grown_then p d e₂ e₃ s₁ s₂ s₃ _ _ b c)

@@ -7,78 +7,78 @@ use native.Mathlib.Numerals.{add-one}
 use lib.ListN.{length, get_or, take}
 use lib.Seq.{take-suc}
 use borrow.Rule.Slice.PartMut.{put_mid}
-use Rattle.laws.specs.Parts.{Within, part_length, part_at, within-at, within-trans, within_none, put-part, put-within}
-use Rattle.scratch.specs.Layout.{visitedAt, visitedEnd, visitedDistsAt, poolAt, poolEnd}
+use Rattle.laws.specs.Parts.{Within, part_length, part_at, within_at, within_trans, within_none, put_part, put_within}
+use Rattle.scratch.specs.Layout.{visited_at, visited_end, visited_dists_at, pool_at, pool_end}
 use Rattle.greedy.specs.declared.Plan.{Plan}
-use Rattle.greedy.specs.Scratch.{space-kept, Room}
-use Rattle.batch_pool.specs.Pooled.{poolAs, Pooled, Added}
-use Rattle.batch_pool.specs.Regions.{Stage, stage, poolWordsOf, poolOf, seenOf, Seen, Filled}
+use Rattle.greedy.specs.Scratch.{space_kept, Room}
+use Rattle.batch_pool.specs.Pooled.{pool_as, Pooled, Added}
+use Rattle.batch_pool.specs.Regions.{Stage, stage, pool_words_of, pool_of, seen_of, Seen, Filled}
 use Rattle.batch_pool.proofs.Adding.{added_none, added_then}
 
 -- the words of the pool came back, with r ids in it
 abbrev pub returned : ℕ → Stage → List ℕ → ℕ → Stage
-returned n s pool r = stage (put_mid (poolAt n) (poolEnd n - poolAt n) s.words pool) s.stamp r
+returned n s pool r = stage (put_mid (pool_at n) (pool_end n - pool_at n) s.words pool) s.stamp r
 
-module _ (n : ℕ) (s : Stage) (pool : List ℕ) (room : poolEnd n ≤ length s.words) (same : length pool ≡ length (poolWordsOf n s.words)) where
-  pub words-lent : Within (poolAt n) (poolEnd n) s.words (put_mid (poolAt n) (poolEnd n - poolAt n) s.words pool)
-  words-lent = put-within (poolAt n) (poolEnd n) s.words pool (omega arith) room same
+module _ (n : ℕ) (s : Stage) (pool : List ℕ) (room : pool_end n ≤ length s.words) (same : length pool ≡ length (pool_words_of n s.words)) where
+  pub words_lent : Within (pool_at n) (pool_end n) s.words (put_mid (pool_at n) (pool_end n - pool_at n) s.words pool)
+  words_lent = put_within (pool_at n) (pool_end n) s.words pool (omega arith) room same
 
-  pub added-lent : {xs : List ℕ} {Known : (ℕ → ℕ) → Type 0} (r : ℕ) → Added n (poolOf n s) (poolAs pool s.stamp r) xs Known
-      → Added n (poolOf n s) (poolOf n (returned n s pool r)) xs Known
-  added-lent r a = rw (put-part (poolAt n) (poolEnd n) s.words pool (omega arith) room same) a
+  pub added_lent : {xs : List ℕ} {Known : (ℕ → ℕ) → Type 0} (r : ℕ) → Added n (pool_of n s) (pool_as pool s.stamp r) xs Known
+      → Added n (pool_of n s) (pool_of n (returned n s pool r)) xs Known
+  added_lent r a = rw (put_part (pool_at n) (pool_end n) s.words pool (omega arith) room same) a
 
 -- a walk's room lies below the pool, so it is kept when nothing below the pool differs
-pub room-kept : (p : Plan) (epoch end : ℕ) (a b : List ℕ) → Room p epoch a → Within (poolAt p.n) end a b → Room p epoch b
-room-kept p epoch end a b m w =
+pub room_kept : (p : Plan) (epoch end : ℕ) (a b : List ℕ) → Room p epoch a → Within (pool_at p.n) end a b → Room p epoch b
+room_kept p epoch end a b m w =
     record {
-      space = space-kept m.space w.size;
-      marks = λ i h. subst (λ (k : ℕ). k ≤ epoch) (sym (within-at (poolAt p.n) end a b w i 0 (omega arith))) (m.marks i h);
+      space = space_kept m.space w.size;
+      marks = λ i h. subst (λ (k : ℕ). k ≤ epoch) (sym (within_at (pool_at p.n) end a b w i 0 (omega arith))) (m.marks i h);
     }
 
 -- ---- the visited, one after another
-pub filled_none : (n : ℕ) (s : Stage) → Pooled n (poolOf n s) → Filled n s s 0
-filled_none n s h = record { added = added_none (Seen n s.words 0) h; kept = within_none (poolAt n) (poolEnd n) s.words }
+pub filled_none : (n : ℕ) (s : Stage) → Pooled n (pool_of n s) → Filled n s s 0
+filled_none n s h = record { added = added_none (Seen n s.words 0) h; kept = within_none (pool_at n) (pool_end n) s.words }
 
-module _ (n : ℕ) (s₀ s : Stage) (k : ℕ) (f : Filled n s₀ s k) (h : k < n) (room : poolEnd n ≤ length s₀.words) where
+module _ (n : ℕ) (s₀ s : Stage) (k : ℕ) (f : Filled n s₀ s k) (h : k < n) (room : pool_end n ≤ length s₀.words) where
   abbrev words₀ : List ℕ
   words₀ = s₀.words
 
   abbrev id : ℕ
-  id = get_or s.words (visitedAt n + k) 0
+  id = get_or s.words (visited_at n + k) 0
 
   abbrev dist : ℕ
-  dist = get_or s.words (visitedDistsAt n + k) 0
+  dist = get_or s.words (visited_dists_at n + k) 0
 
-  words-room : poolEnd n ≤ length s.words
-  words-room = omega (arith, f.kept.size)
+  words_room : pool_end n ≤ length s.words
+  words_room = omega (arith, f.kept.size)
 
   -- what lies below the pool is as it was
-  below : (i : ℕ) → i < poolAt n → get_or s.words i 0 ≡ get_or words₀ i 0
-  below i l = within-at (poolAt n) (poolEnd n) words₀ s.words f.kept i 0 l
+  below : (i : ℕ) → i < pool_at n → get_or s.words i 0 ≡ get_or words₀ i 0
+  below i l = within_at (pool_at n) (pool_end n) words₀ s.words f.kept i 0 l
 
-  pub id-kept : id ≡ get_or words₀ (visitedAt n + k) 0
-  id-kept = below (visitedAt n + k) (omega arith)
+  pub id_kept : id ≡ get_or words₀ (visited_at n + k) 0
+  id_kept = below (visited_at n + k) (omega arith)
 
-  dist-kept : dist ≡ get_or words₀ (visitedDistsAt n + k) 0
-  dist-kept = below (visitedDistsAt n + k) (omega arith)
+  dist_kept : dist ≡ get_or words₀ (visited_dists_at n + k) 0
+  dist_kept = below (visited_dists_at n + k) (omega arith)
 
-  seen-length : length (seenOf n words₀) ≡ n
-  seen-length = part_length (visitedAt n) (visitedEnd n) words₀ (omega arith) ∙ omega arith
+  seen_length : length (seen_of n words₀) ≡ n
+  seen_length = part_length (visited_at n) (visited_end n) words₀ (omega arith) ∙ omega arith
 
-  seen_more : take (k + 1) (seenOf n words₀) ≡ take k (seenOf n words₀) ++ (id ∷ [])
+  seen_more : take (k + 1) (seen_of n words₀) ≡ take k (seen_of n words₀) ++ (id ∷ [])
   seen_more =
       rw (add-one k)
-      (take-suc (seenOf n words₀) k 0 (omega (arith, seen-length))
-      ∙ ap (λ (x : ℕ). take k (seenOf n words₀) ++ (x ∷ [])) (part_at (visitedAt n) (visitedEnd n) words₀ k 0 (omega arith) ∙ sym id-kept))
+      (take-suc (seen_of n words₀) k 0 (omega (arith, seen_length))
+      ∙ ap (λ (x : ℕ). take k (seen_of n words₀) ++ (x ∷ [])) (part_at (visited_at n) (visited_end n) words₀ k 0 (omega arith) ∙ sym id_kept))
 
-  pub filled_more : (pool : List ℕ) (same : length pool ≡ length (poolWordsOf n s.words)) (r : ℕ)
-      → Added n (poolOf n s) (poolAs pool s.stamp r) (id ∷ []) (λ d. dist ≡ d id) → Filled n s₀ (returned n s pool r) (k + 1)
+  pub filled_more : (pool : List ℕ) (same : length pool ≡ length (pool_words_of n s.words)) (r : ℕ)
+      → Added n (pool_of n s) (pool_as pool s.stamp r) (id ∷ []) (λ d. dist ≡ d id) → Filled n s₀ (returned n s pool r) (k + 1)
   filled_more pool same r a =
       record {
         added =
             rw seen_more
-            (added_then (Seen n words₀ (k + 1)) f.added (added-lent n s pool words-room same r a)
+            (added_then (Seen n words₀ (k + 1)) f.added (added_lent n s pool words_room same r a)
             (λ d known j l. known j (omega arith))
-            (λ d known. dist-kept ∙ known k (omega arith) ∙ ap d (sym id-kept)));
-        kept = within-trans (poolAt n) (poolEnd n) words₀ s.words _ f.kept (words-lent n s pool words-room same);
+            (λ d known. dist_kept ∙ known k (omega arith) ∙ ap d (sym id_kept)));
+        kept = within_trans (pool_at n) (pool_end n) words₀ s.words _ f.kept (words_lent n s pool words_room same);
       }

@@ -8,7 +8,7 @@ use lib.ListN.{length, get_or, take}
 use lib.Seq.{take-suc, take_all}
 use Rattle.definition.specs.Lists.{keep}
 use Rattle.definition.specs.Tables.{pad, ids}
-use Rattle.laws.specs.Tables.{ids-append, ids-first, ids-skip}
+use Rattle.laws.specs.Tables.{ids-append, ids-first, ids_skip}
 use Rattle.laws.specs.Words.{padding}
 use Rattle.batch_pool.specs.Pooled.{Pool, Pooled, Added}
 use Rattle.batch_pool.proofs.Adding.{added_none, added_then}
@@ -17,13 +17,13 @@ module _ (row : List ℕ) (k : ℕ) (h : k < length row) where
   ids_next : ids (take (k + 1) row) ≡ ids (take k row) ++ ids (get_or row k 0 ∷ [])
   ids_next = ap ids (rw (add-one k) (take-suc row k 0 h)) ∙ ids-append (take k row) (get_or row k 0 ∷ [])
 
-  ids-real : (get_or row k 0 ≡ padding → ⊥) → ids (take (k + 1) row) ≡ ids (take k row) ++ (get_or row k 0 ∷ [])
+  ids_real : (get_or row k 0 ≡ padding → ⊥) → ids (take (k + 1) row) ≡ ids (take k row) ++ (get_or row k 0 ∷ [])
   unfolding ids keep pad
-  ids-real n = ids_next ∙ ap (λ (l : List ℕ). ids (take k row) ++ l) (ids-first (get_or row k 0) [] n)
+  ids_real n = ids_next ∙ ap (λ (l : List ℕ). ids (take k row) ++ l) (ids-first (get_or row k 0) [] n)
 
   ids-pad : get_or row k 0 ≡ padding → ids (take (k + 1) row) ≡ ids (take k row)
   unfolding ids keep pad
-  ids-pad e = ids_next ∙ ap (λ (l : List ℕ). ids (take k row) ++ l) (ids-skip (get_or row k 0) [] e) ∙ append-nil (ids (take k row))
+  ids-pad e = ids_next ∙ ap (λ (l : List ℕ). ids (take k row) ++ l) (ids_skip (get_or row k 0) [] e) ∙ append-nil (ids (take k row))
 
 -- ---- the words of a row before place k have been added, with the distances d
 pub record RowSoFar (n : ℕ) (row : List ℕ) (d : ℕ → ℕ) (before after : Pool) (k : ℕ) : Type 0 where
@@ -31,24 +31,24 @@ pub record RowSoFar (n : ℕ) (row : List ℕ) (d : ℕ → ℕ) (before after :
   pub added : Added n before after (ids (take k row)) (λ f. f ≡ d)
 
 module _ (n : ℕ) (row : List ℕ) (d : ℕ → ℕ) (p₀ : Pool) where
-  pub row-start : Pooled n p₀ → RowSoFar n row d p₀ p₀ 0
+  pub row_start : Pooled n p₀ → RowSoFar n row d p₀ p₀ 0
   unfolding ids keep
-  row-start h = record { le = omega arith; added = added_none (λ f. f ≡ d) h }
+  row_start h = record { le = omega arith; added = added_none (λ f. f ≡ d) h }
 
   module _ (p : Pool) (k : ℕ) (w : RowSoFar n row d p₀ p k) where
     pub row_done : length row ≤ k → Added n p₀ p (ids row) (λ f. f ≡ d)
     row_done h = subst (λ (l : List ℕ). Added n p₀ p (ids l) (λ f. f ≡ d)) (take_all k row h) w.added
 
     module _ (h : k < length row) where
-      pub row-pad : get_or row k 0 ≡ padding → RowSoFar n row d p₀ p (k + 1)
-      row-pad e = record { le = omega arith; added = rw (ids-pad row k h e) w.added }
+      pub row_pad : get_or row k 0 ≡ padding → RowSoFar n row d p₀ p (k + 1)
+      row_pad e = record { le = omega arith; added = rw (ids-pad row k h e) w.added }
 
-      pub row-real : (get_or row k 0 ≡ padding → ⊥) → (p₁ : Pool) (dist : ℕ) → dist ≡ d (get_or row k 0)
+      pub row_real : (get_or row k 0 ≡ padding → ⊥) → (p₁ : Pool) (dist : ℕ) → dist ≡ d (get_or row k 0)
           → Added n p p₁ (get_or row k 0 ∷ []) (λ f. dist ≡ f (get_or row k 0)) → RowSoFar n row d p₀ p₁ (k + 1)
-      row-real real p₁ dist e a =
+      row_real real p₁ dist e a =
           record {
             le = omega arith;
             added =
-                rw (ids-real row k h real)
+                rw (ids_real row k h real)
                 (added_then (λ f. f ≡ d) w.added a (λ f g. g) (λ f g. e ∙ ap (λ (z : ℕ → ℕ). z (get_or row k 0)) (sym g)));
           }

@@ -1,23 +1,23 @@
 // Part 6, the pool of one node: its row, and all visited by one walk from the start and one from each of its seeds, once per id.
 
 ghost use Rattle.std.specs.Prelude.{◌≡◌, [], ◌∷◌, map, ◌+◌, ◌≤◌, ◌<◌, length};
-ghost use Rattle.definition.specs.Metric.{fromQuery};
+ghost use Rattle.definition.specs.Metric.{from_query};
 ghost use Rattle.definition.specs.Lists.{joined};
 ghost use Rattle.definition.specs.Tables.{ids};
 ghost use Rattle.laws.specs.Words.{Searchable, Below};
-ghost use Rattle.theory.specs.build.Walks.{nodeWalks, epochAfter, epochEnd};
-ghost use Rattle.scratch.specs.Layout.{poolEnd};
+ghost use Rattle.theory.specs.build.Walks.{node_walks, epoch_after, epoch_end};
+ghost use Rattle.scratch.specs.Layout.{pool_end};
 ghost use Rattle.greedy.specs.Scratch.{Measures};
-ghost use Rattle.batch_pool.specs.Pooled.{poolAs, Pooled, Added};
-ghost use Rattle.batch_pool.specs.Regions.{Walkable, stage, poolOf, SeenBelow, Filled, Holding, Grown, visits, pooledIds};
+ghost use Rattle.batch_pool.specs.Pooled.{pool_as, Pooled, Added};
+ghost use Rattle.batch_pool.specs.Regions.{Walkable, stage, pool_of, SeenBelow, Filled, Holding, Grown, visits, pooled_ids};
 
 use greedy::Plan;
 
 // One id with its distance, unless its mark is the stamp. The ids stand in front, the marks of the n entries from n on, the distances from 2n on.
 fn add_once(pool: &mut [u32], n: usize, stamp: u32, len: usize, id: u32, dist: u32) -> usize
-    requires pooled { Pooled n (poolAs pool.old stamp len) }
+    requires pooled { Pooled n (pool_as pool.old stamp len) }
     requires n_bound { (n ≤ 65536) × (id < n) }
-    ensures { Added n (poolAs pool.old stamp len) (poolAs pool.new stamp result) (id ∷ []) (λ d. dist ≡ d id) }
+    ensures { Added n (pool_as pool.old stamp len) (pool_as pool.new stamp result) (id ∷ []) (λ d. dist ≡ d id) }
 {
     let i = id as usize;
     let mark = n + i;
@@ -41,12 +41,12 @@ fn add_row(
     vectors: &[u8],
     query: &[u8],
 ) -> usize
-    requires pooled { Pooled n (poolAs pool.old stamp 0) }
+    requires pooled { Pooled n (pool_as pool.old stamp 0) }
     requires n_bound { n ≤ 65536 }
     requires measures { Measures n dim vectors.now query.now }
     requires searchable { Searchable n row.now }
-    ensures { Added n (poolAs pool.old stamp 0) (poolAs pool.new stamp result)
-        (ids row.now) (λ d. d ≡ fromQuery dim vectors.now query.now) }
+    ensures { Added n (pool_as pool.old stamp 0) (pool_as pool.new stamp result)
+        (ids row.now) (λ d. d ≡ from_query dim vectors.now query.now) }
 {
     let mut len = 0;
     let mut k = 0;
@@ -63,8 +63,8 @@ fn add_row(
 
 // All that a walk visited: it left their ids and distances in the words. The pool's region is that of crate scratch: its ids, its marks, its distances.
 fn add_visited(words: &mut [u32], n: usize, visited: usize, stamp: u32, len: usize) -> usize
-    requires pooled { Pooled n (poolOf n (stage words.old stamp len)) }
-    requires n_bound { (n ≤ 65536) × (poolEnd n ≤ length words.old) × (visited ≤ n) }
+    requires pooled { Pooled n (pool_of n (stage words.old stamp len)) }
+    requires n_bound { (n ≤ 65536) × (pool_end n ≤ length words.old) × (visited ≤ n) }
     requires seen_below { SeenBelow n words.old visited }
     ensures { Filled n (stage words.old stamp len) (stage words.new stamp result) visited }
 {
@@ -105,11 +105,11 @@ fn add_walk(
     start: u32,
 ) -> Collected
     requires walkable { Walkable p vectors.now query.now wide.now }
-    requires epoch_bound { (epoch + 1 < epochEnd) × Holding p epoch (stage words.old stamp len) }
+    requires epoch_bound { (epoch + 1 < epoch_end) × Holding p epoch (stage words.old stamp len) }
     requires start_lt_n { start < p.n }
     ensures grown { Grown p result.epoch (stage words.old stamp len) (stage words.new stamp result.len)
-        (visits p (fromQuery p.dim vectors.now query.now) wide.now start)
-        (fromQuery p.dim vectors.now query.now) }
+        (visits p (from_query p.dim vectors.now query.now) wide.now start)
+        (from_query p.dim vectors.now query.now) }
     ensures epoch_value { result.epoch ≡ epoch + 1 }
 {
     let mut keys = [beam::NONE; 256];
@@ -133,11 +133,11 @@ fn add_walks(
     c: Collected,
 ) -> Collected
     requires walkable { Walkable p vectors.now query.now wide.now }
-    requires seeds_bound { (c.epoch + length seeds.now < epochEnd) × Holding p c.epoch (stage words.old stamp c.len) }
+    requires seeds_bound { (c.epoch + length seeds.now < epoch_end) × Holding p c.epoch (stage words.old stamp c.len) }
     requires below { Below p.n seeds.now }
     ensures grown { Grown p result.epoch (stage words.old stamp c.len) (stage words.new stamp result.len)
-        (joined (map (visits p (fromQuery p.dim vectors.now query.now) wide.now) seeds.now))
-        (fromQuery p.dim vectors.now query.now) }
+        (joined (map (visits p (from_query p.dim vectors.now query.now) wide.now) seeds.now))
+        (from_query p.dim vectors.now query.now) }
     ensures epoch_value { result.epoch ≡ c.epoch + length seeds.now }
 {
     let mut s = c;
@@ -165,12 +165,12 @@ pub fn collect_pool(
     seeds: &[u32],
 ) -> Collected
     requires walkable { Walkable p vectors.now query.now wide.now }
-    requires seeds_bound { (epochAfter epoch (nodeWalks wide.now start node seeds.now) < epochEnd) × Holding p epoch (stage words.old stamp 0) }
+    requires seeds_bound { (epoch_after epoch (node_walks wide.now start node seeds.now) < epoch_end) × Holding p epoch (stage words.old stamp 0) }
     requires node_lt_n { (node < p.n) × (start < p.n) × Below p.n seeds.now }
     ensures grown { Grown p result.epoch (stage words.old stamp 0) (stage words.new stamp result.len)
-        (pooledIds p (fromQuery p.dim vectors.now query.now) wide.now node start seeds.now)
-        (fromQuery p.dim vectors.now query.now) }
-    ensures epoch_value { result.epoch ≡ epochAfter epoch (nodeWalks wide.now start node seeds.now) }
+        (pooled_ids p (from_query p.dim vectors.now query.now) wide.now node start seeds.now)
+        (from_query p.dim vectors.now query.now) }
+    ensures epoch_value { result.epoch ≡ epoch_after epoch (node_walks wide.now start node seeds.now) }
 {
     let n = p.n;
     let width = p.width;

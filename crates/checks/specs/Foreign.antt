@@ -5,11 +5,11 @@ use Rattle.std.proofs.lemmas.Bool.{eqb-false}
 use Rattle.definition.specs.Tables.{pad}
 
 -- the test that the search rule makes of a word
-abbrev pub isWord : ℕ → ℕ → Bool
-isWord n w = w == pad || nat_lt w n
+abbrev pub is_word : ℕ → ℕ → Bool
+is_word n w = w == pad || nat_lt w n
 
 -- one comparison for both
-one_more : (n w up : ℕ) → w < 2 ^ 32 → up ≡ (w + 1) % 2 ^ 32 → isWord n w ≡ not (nat_lt n up)
+one_more : (n w up : ℕ) → w < 2 ^ 32 → up ≡ (w + 1) % 2 ^ 32 → is_word n w ≡ not (nat_lt n up)
 unfolding pad
 one_more n w up h e = go (w == 0xFFFFFFFF) refl (nat_lt w n) refl
   where
@@ -19,8 +19,8 @@ one_more n w up h e = go (w == 0xFFFFFFFF) refl (nat_lt w n) refl
     go false ep false eq = let x = eqb-false w 0xFFFFFFFF ep in let y = ltb-false w n eq in ap not (sym (lt-ltb n up (omega arith)))
 
 module _ (n w up : ℕ) (fits : w < 2 ^ 32) (e : up ≡ (w + 1) % 2 ^ 32) where
-  pub word-foreign : n < up → isWord n w ≡ false
-  word-foreign h = one_more n w up fits e ∙ rw (lt-ltb n up h) refl
+  pub word_foreign : n < up → is_word n w ≡ false
+  word_foreign h = one_more n w up fits e ∙ rw (lt-ltb n up h) refl
 
-  pub word-fine : up ≤ n → isWord n w ≡ true
-  word-fine h = one_more n w up fits e ∙ rw (le-ltb n up h) refl
+  pub word_fine : up ≤ n → is_word n w ≡ true
+  word_fine h = one_more n w up fits e ∙ rw (le-ltb n up h) refl

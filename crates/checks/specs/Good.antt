@@ -2,8 +2,8 @@
 use Rattle.std.specs.Prelude.{◌≡◌, ℕ, ◌*◌, false}
 use Rattle.std.proofs.Common.{eqb-true}
 use Rattle.checks.specs.Bools.{not-false}
-use Rattle.checks.specs.Lengths.{wrongLength}
+use Rattle.checks.specs.Lengths.{wrong_length}
 
-pub length-right : (n width size : ℕ) → wrongLength n width size ≡ false → size ≡ n * width
-unfolding wrongLength
-length-right n width size e = eqb-true size (n * width) (not-false _ e)
+pub length_right : (n width size : ℕ) → wrong_length n width size ≡ false → size ≡ n * width
+unfolding wrong_length
+length_right n width size e = eqb-true size (n * width) (not-false _ e)

@@ -8,129 +8,129 @@ use Rattle.std.proofs.Math.Nat.{mul-zero, mul-mod_left}
 use native.Mathlib.Omega.{arith}
 use borrow.Author.Tests.{lt-ltb, le-ltb, eq-eqb, ne_eqb, not-true, not-false}
 use Rattle.std.proofs.Math.Seq.{drop-drop}
-use Rattle.definition.specs.Lists.{each, isIn, distinct, groups}
-use Rattle.definition.specs.Refusals.{badExtra, goodGroup, badSeeds}
-use Rattle.checks.specs.Lent.{part-is}
+use Rattle.definition.specs.Lists.{each, is_in, distinct, groups}
+use Rattle.definition.specs.Refusals.{bad_extra, good_group, bad_seeds}
+use Rattle.checks.specs.Lent.{part_is}
 
 -- ---- one group, from seed i on
 module _ (n start : ℕ) (group : List ℕ) (i : ℕ)
-    (same : goodGroup n start (drop i group) ≡ goodGroup n start group) (h : i < length group) where
+    (same : good_group n start (drop i group) ≡ good_group n start group) (h : i < length group) where
   later : Bool
   later = each (λ s. nat_lt s n && not (s == start)) (drop (i + 1) group)
 
-  good-step : goodGroup n start (drop i group)
+  good_step : good_group n start (drop i group)
       ≡ (((nat_lt (slice_index group i) n && not (slice_index group i == start)) && later)
-      && (not (isIn (slice_index group i) (drop (i + 1) group)) && distinct (drop (i + 1) group)))
-  unfolding goodGroup each distinct later
-  good-step = rw (drop-cons group i 0 h, add-one i) refl
+      && (not (is_in (slice_index group i) (drop (i + 1) group)) && distinct (drop (i + 1) group)))
+  unfolding good_group each distinct later
+  good_step = rw (drop-cons group i 0 h, add-one i) refl
 
-  pub seed-far : n ≤ slice_index group i → true ≡ not (goodGroup n start group)
-  seed-far f = let broken : goodGroup n start (drop i group) ≡ false = good-step ∙ rw (le-ltb (slice_index group i) n f) refl in ap not (sym broken ∙ same)
+  pub seed_far : n ≤ slice_index group i → true ≡ not (good_group n start group)
+  seed_far f = let broken : good_group n start (drop i group) ≡ false = good_step ∙ rw (le-ltb (slice_index group i) n f) refl in ap not (sym broken ∙ same)
 
   module _ (near : slice_index_or group i 0 < n) where
-    pub seed-start : slice_index_or group i 0 ≡ start → true ≡ not (goodGroup n start group)
-    seed-start e =
-        let broken : goodGroup n start (drop i group) ≡ false =
-        good-step ∙ rw (lt-ltb (slice_index group i) n near, eq-eqb (slice_index group i) start e) refl in
+    pub seed_start : slice_index_or group i 0 ≡ start → true ≡ not (good_group n start group)
+    seed_start e =
+        let broken : good_group n start (drop i group) ≡ false =
+        good_step ∙ rw (lt-ltb (slice_index group i) n near, eq-eqb (slice_index group i) start e) refl in
         ap not (sym broken ∙ same)
 
     module _ (other : slice_index_or group i 0 ≡ start → ⊥) where
-      pub seed-again : isIn (slice_index group i) (drop (i + 1) group) ≡ true → true ≡ not (goodGroup n start group)
-      seed-again e =
-          let broken : goodGroup n start (drop i group) ≡ false =
-          good-step ∙ rw (lt-ltb (slice_index group i) n near, ne_eqb (slice_index group i) start other, e) (and-false later) in
+      pub seed_again : is_in (slice_index group i) (drop (i + 1) group) ≡ true → true ≡ not (good_group n start group)
+      seed_again e =
+          let broken : good_group n start (drop i group) ≡ false =
+          good_step ∙ rw (lt-ltb (slice_index group i) n near, ne_eqb (slice_index group i) start other, e) (and-false later) in
           ap not (sym broken ∙ same)
 
-      pub seed-good : isIn (slice_index group i) (drop (i + 1) group) ≡ false → goodGroup n start (drop (i + 1) group) ≡ goodGroup n start group
-      unfolding goodGroup later
-      seed-good e =
-          let kept : goodGroup n start (drop i group) ≡ (later && distinct (drop (i + 1) group)) =
-          good-step ∙ rw (lt-ltb (slice_index group i) n near, ne_eqb (slice_index group i) start other, e) refl in
+      pub seed_good : is_in (slice_index group i) (drop (i + 1) group) ≡ false → good_group n start (drop (i + 1) group) ≡ good_group n start group
+      unfolding good_group later
+      seed_good e =
+          let kept : good_group n start (drop i group) ≡ (later && distinct (drop (i + 1) group)) =
+          good_step ∙ rw (lt-ltb (slice_index group i) n near, ne_eqb (slice_index group i) start other, e) refl in
           sym kept ∙ same
 
-pub seeds-end : (n start : ℕ) (group : List ℕ) (i : ℕ) → goodGroup n start (drop i group) ≡ goodGroup n start group → length group ≤ i
-    → false ≡ not (goodGroup n start group)
-unfolding goodGroup each distinct
-seeds-end n start group i same h = let ended : goodGroup n start (drop i group) ≡ true = rw (drop_of_length-le group h) refl in ap not (sym ended ∙ same)
+pub seeds_end : (n start : ℕ) (group : List ℕ) (i : ℕ) → good_group n start (drop i group) ≡ good_group n start group → length group ≤ i
+    → false ≡ not (good_group n start group)
+unfolding good_group each distinct
+seeds_end n start group i same h = let ended : good_group n start (drop i group) ≡ true = rw (drop_of_length-le group h) refl in ap not (sym ended ∙ same)
 
 -- ---- the groups, from group g on
 pub record Grouped (n start extra count : ℕ) (seeds : List ℕ) (g : ℕ) : Type 0 where
   pub upto : g ≤ count
-  pub same : each (goodGroup n start) (groups (count - g) extra (drop (g * extra) seeds)) ≡ each (goodGroup n start) (groups count extra seeds)
+  pub same : each (good_group n start) (groups (count - g) extra (drop (g * extra) seeds)) ≡ each (good_group n start) (groups count extra seeds)
 
 module _ (n start extra count : ℕ) (seeds : List ℕ) where
-  pub groups-start : Grouped n start extra count seeds 0
-  groups-start =
+  pub groups_start : Grouped n start extra count seeds 0
+  groups_start =
       let z : 0 * extra ≡ 0 = omega arith in
       let y : count - 0 ≡ count = omega arith in
       record { upto = omega arith; same = rw (z, y) refl }
 
   module _ (g : ℕ) (w : Grouped n start extra count seeds g) where
-    groups-step : g < count → each (goodGroup n start) (groups (count - g) extra (drop (g * extra) seeds))
-        ≡ (goodGroup n start (take extra (drop (g * extra) seeds)) && each (goodGroup n start) (groups (count - (g + 1)) extra (drop ((g + 1) * extra) seeds)))
+    groups_step : g < count → each (good_group n start) (groups (count - g) extra (drop (g * extra) seeds))
+        ≡ (good_group n start (take extra (drop (g * extra) seeds)) && each (good_group n start) (groups (count - (g + 1)) extra (drop ((g + 1) * extra) seeds)))
     unfolding each groups
-    groups-step h =
+    groups_step h =
         let k : count - g ≡ suc (count - (g + 1)) = omega arith in
         let a : g * extra + extra ≡ (g + 1) * extra = omega arith in
         rw (k, ← a, ← drop-drop extra (g * extra) seeds) refl
 
-    module _ (h : g < count) (r : Bool) (t : r ≡ not (goodGroup n start (take (g * extra + extra - g * extra) (drop (g * extra) seeds)))) where
-      tested : not (goodGroup n start (take extra (drop (g * extra) seeds))) ≡ r
-      tested = sym (t ∙ ap (λ (l : List ℕ). not (goodGroup n start l)) (part-is extra (g * extra) seeds))
+    module _ (h : g < count) (r : Bool) (t : r ≡ not (good_group n start (take (g * extra + extra - g * extra) (drop (g * extra) seeds)))) where
+      tested : not (good_group n start (take extra (drop (g * extra) seeds))) ≡ r
+      tested = sym (t ∙ ap (λ (l : List ℕ). not (good_group n start l)) (part_is extra (g * extra) seeds))
 
-      pub group-bad : r ≡ true → true ≡ not (each (goodGroup n start) (groups count extra seeds))
-      group-bad e =
-          let bad : goodGroup n start (take extra (drop (g * extra) seeds)) ≡ false = not-true _ (tested ∙ e) in
-          let broken : each (goodGroup n start) (groups (count - g) extra (drop (g * extra) seeds)) ≡ false = groups-step h ∙ rw bad refl in
+      pub group_bad : r ≡ true → true ≡ not (each (good_group n start) (groups count extra seeds))
+      group_bad e =
+          let bad : good_group n start (take extra (drop (g * extra) seeds)) ≡ false = not-true _ (tested ∙ e) in
+          let broken : each (good_group n start) (groups (count - g) extra (drop (g * extra) seeds)) ≡ false = groups_step h ∙ rw bad refl in
           ap not (sym broken ∙ w.same)
 
-      pub group-good : r ≡ false → Grouped n start extra count seeds (g + 1)
-      group-good e =
-          let good : goodGroup n start (take extra (drop (g * extra) seeds)) ≡ true = not-false _ (tested ∙ e) in
-          let kept : each (goodGroup n start) (groups (count - g) extra (drop (g * extra) seeds))
-          ≡ each (goodGroup n start) (groups (count - (g + 1)) extra (drop ((g + 1) * extra) seeds)) = groups-step h ∙ rw good refl in
+      pub group_good : r ≡ false → Grouped n start extra count seeds (g + 1)
+      group_good e =
+          let good : good_group n start (take extra (drop (g * extra) seeds)) ≡ true = not-false _ (tested ∙ e) in
+          let kept : each (good_group n start) (groups (count - g) extra (drop (g * extra) seeds))
+          ≡ each (good_group n start) (groups (count - (g + 1)) extra (drop ((g + 1) * extra) seeds)) = groups_step h ∙ rw good refl in
           record { upto = omega arith; same = sym kept ∙ w.same }
 
-    pub groups-end : count ≤ g → false ≡ not (each (goodGroup n start) (groups count extra seeds))
+    pub groups_end : count ≤ g → false ≡ not (each (good_group n start) (groups count extra seeds))
     unfolding each groups
-    groups-end h =
+    groups_end h =
         let z : count - g ≡ 0 = omega arith in
-        let ended : each (goodGroup n start) (groups (count - g) extra (drop (g * extra) seeds)) ≡ true = rw z refl in
+        let ended : each (good_group n start) (groups (count - g) extra (drop (g * extra) seeds)) ≡ true = rw z refl in
         ap not (sym ended ∙ w.same)
 
 -- ---- how many seeds there are
-no-seeds : (n start count : ℕ) → each (goodGroup n start) (groups count 0 []) ≡ true
-unfolding each groups goodGroup distinct
-no-seeds n start zero = refl
-no-seeds n start (suc count) = no-seeds n start count
+no_seeds : (n start count : ℕ) → each (good_group n start) (groups count 0 []) ≡ true
+unfolding each groups good_group distinct
+no_seeds n start zero = refl
+no_seeds n start (suc count) = no_seeds n start count
 
 module _ (n extra start count : ℕ) (seeds : List ℕ) where
-  pub seeds-limit : badExtra n extra ≡ true → true ≡ badSeeds n extra start count seeds
-  unfolding badSeeds
-  seeds-limit e = rw e refl
+  pub seeds_limit : bad_extra n extra ≡ true → true ≡ bad_seeds n extra start count seeds
+  unfolding bad_seeds
+  seeds_limit e = rw e refl
 
-  module _ (limit : badExtra n extra ≡ false) where
-    pub seeds-none : extra ≡ 0 → not (length seeds == 0) ≡ badSeeds n extra start count seeds
-    unfolding badSeeds
-    seeds-none z = go seeds
+  module _ (limit : bad_extra n extra ≡ false) where
+    pub seeds_none : extra ≡ 0 → not (length seeds == 0) ≡ bad_seeds n extra start count seeds
+    unfolding bad_seeds
+    seeds_none z = go seeds
       where
         product : count * extra ≡ 0
         product = ap (λ (k : ℕ). count * k) z ∙ mul-zero count
 
         go : (l : List ℕ) → not (length l == 0)
-            ≡ (badExtra n extra || (not (length l == count * extra) || not (each (goodGroup n start) (groups count extra l))))
-        go [] = rw (limit, product) (ap not (sym (ap (λ (k : ℕ). each (goodGroup n start) (groups count k [])) z ∙ no-seeds n start count)))
+            ≡ (bad_extra n extra || (not (length l == count * extra) || not (each (good_group n start) (groups count extra l))))
+        go [] = rw (limit, product) (ap not (sym (ap (λ (k : ℕ). each (good_group n start) (groups count k [])) z ∙ no_seeds n start count)))
         go (x ∷ xs) =
             let some : nat_eq (length (x ∷ xs)) 0 ≡ false = ne_eqb (length (x ∷ xs)) 0 (λ (e : suc (length xs) ≡ 0). omega arith) in
             rw (limit, product, some) refl
 
-    pub seeds-wrong : (length seeds ≢ count * extra) → true ≡ badSeeds n extra start count seeds
-    unfolding badSeeds
-    seeds-wrong f = rw (limit, ne_eqb (length seeds) (count * extra) f) refl
+    pub seeds_wrong : (length seeds ≢ count * extra) → true ≡ bad_seeds n extra start count seeds
+    unfolding bad_seeds
+    seeds_wrong f = rw (limit, ne_eqb (length seeds) (count * extra) f) refl
 
-    pub seeds-right : length seeds ≡ count * extra → not (each (goodGroup n start) (groups count extra seeds)) ≡ badSeeds n extra start count seeds
-    unfolding badSeeds
-    seeds-right f = rw (limit, eq-eqb (length seeds) (count * extra) f) refl
+    pub seeds_right : length seeds ≡ count * extra → not (each (good_group n start) (groups count extra seeds)) ≡ bad_seeds n extra start count seeds
+    unfolding bad_seeds
+    seeds_right f = rw (limit, eq-eqb (length seeds) (count * extra) f) refl
 
 pub whole-groups : (all extra count : ℕ) → (extra ≢ 0) → (all % extra ≢ 0) → all ≢ count * extra
 whole-groups all extra count some h e = h (ap (λ (k : ℕ). k % extra) e ∙ mul-mod_left count extra)
@@ -138,5 +138,5 @@ whole-groups all extra count some h e = h (ap (λ (k : ℕ). k % extra) e ∙ mu
 pub as_many : (all extra count : ℕ) → (extra ≢ 0) → (all / extra ≢ count) → all ≢ count * extra
 as_many all extra count some h e = h (ap (λ (k : ℕ). k / extra) e ∙ mul-div_cancel count (omega arith))
 
-pub right-many : (all extra count : ℕ) → all % extra ≡ 0 → all / extra ≡ count → all ≡ count * extra
-right-many all extra count h e = let d = div-add-mod' all extra in let q = ap (λ (k : ℕ). k * extra) e in omega arith
+pub right_many : (all extra count : ℕ) → all % extra ≡ 0 → all / extra ≡ count → all ≡ count * extra
+right_many all extra count h e = let d = div-add-mod' all extra in let q = ap (λ (k : ℕ). k * extra) e in omega arith

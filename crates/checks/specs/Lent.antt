@@ -2,9 +2,9 @@
 use Rattle.std.specs.Prelude.{◌≡◌, ℕ, ◌+◌, ◌-◌, ◌≤◌, List, length, take, drop, refl}
 use Rattle.std.proofs.Common.{arith, length-drop, take_all}
 
-pub part-is : (width a : ℕ) (l : List ℕ) → take (a + width - a) (drop a l) ≡ take width (drop a l)
-part-is width a l = let e : a + width - a ≡ width = omega arith in rw e refl
+pub part_is : (width a : ℕ) (l : List ℕ) → take (a + width - a) (drop a l) ≡ take width (drop a l)
+part_is width a l = let e : a + width - a ≡ width = omega arith in rw e refl
 
 -- the rest of a list, as it is lent
-pub rest-is : (k : ℕ) (l : List ℕ) → k ≤ length l → take (length l - k) (drop k l) ≡ drop k l
-rest-is k l h = take_all (length l - k) (drop k l) (let e = length-drop k l in omega arith)
+pub rest_is : (k : ℕ) (l : List ℕ) → k ≤ length l → take (length l - k) (drop k l) ≡ drop k l
+rest_is k l h = take_all (length l - k) (drop k l) (let e = length-drop k l in omega arith)

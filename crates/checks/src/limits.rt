@@ -1,15 +1,15 @@
 // Tests of numbers and lengths: no loop.
 
 ghost use Rattle.std.specs.Prelude.{◌≡◌, ◌≤◌};
-ghost use Rattle.definition.specs.Refusals.{badDim, badCount, badVectors, badDegree, badBeam, badAlpha, badStart, badExtra};
+ghost use Rattle.definition.specs.Refusals.{bad_dim, bad_count, bad_vectors, bad_degree, bad_beam, bad_alpha, bad_start, bad_extra};
 ghost use Rattle.definition.specs.Slack.{slack};
-ghost use Rattle.checks.specs.Lengths.{wrongLength};
+ghost use Rattle.checks.specs.Lengths.{wrong_length};
 
 use table::slack;
 
 // 1
 pub fn bad_dim(dim: usize) -> bool
-    ensures { result ≡ badDim dim }
+    ensures { result ≡ bad_dim dim }
 {
     if dim == 0 {
         return true;
@@ -19,7 +19,7 @@ pub fn bad_dim(dim: usize) -> bool
 
 // 2, n alone
 pub fn bad_count(n: usize) -> bool
-    ensures { result ≡ badCount n }
+    ensures { result ≡ bad_count n }
 {
     if n == 0 {
         return true;
@@ -30,7 +30,7 @@ pub fn bad_count(n: usize) -> bool
 // 2, with the vectors
 pub fn bad_vectors(n: usize, dim: usize, vectors: &[u8]) -> bool
     requires { dim ≤ 256 }
-    ensures { result ≡ badVectors n dim vectors.now }
+    ensures { result ≡ bad_vectors n dim vectors.now }
 {
     if bad_count(n) {
         return true;
@@ -41,7 +41,7 @@ pub fn bad_vectors(n: usize, dim: usize, vectors: &[u8]) -> bool
 
 // 3
 pub fn bad_degree(degree: usize) -> bool
-    ensures { result ≡ badDegree degree }
+    ensures { result ≡ bad_degree degree }
 {
     if degree == 0 {
         return true;
@@ -51,28 +51,28 @@ pub fn bad_degree(degree: usize) -> bool
 
 // 4
 pub fn bad_beam(beam: usize) -> bool
-    ensures { result ≡ badBeam beam }
+    ensures { result ≡ bad_beam beam }
 {
     256 < beam
 }
 
 // 5: NaN is not above 4.0
 pub fn bad_alpha(alpha: f32) -> bool
-    ensures { result ≡ badAlpha alpha }
+    ensures { result ≡ bad_alpha alpha }
 {
     4.0 < alpha
 }
 
 // 6
 pub fn bad_start(n: usize, start: u32) -> bool
-    ensures { result ≡ badStart n start }
+    ensures { result ≡ bad_start n start }
 {
     n <= start as usize
 }
 
 // 7, the limits on extra seeds alone
 pub fn bad_extra(n: usize, extra: usize) -> bool
-    ensures { result ≡ badExtra n extra }
+    ensures { result ≡ bad_extra n extra }
 {
     if 16 < extra {
         return true;
@@ -83,7 +83,7 @@ pub fn bad_extra(n: usize, extra: usize) -> bool
 // 8, the length alone, of a table whose rows have `width` words
 pub fn bad_length(n: usize, width: usize, length: usize) -> bool
     requires { (n ≤ 65536) × (width ≤ 128) }
-    ensures { result ≡ wrongLength n width length }
+    ensures { result ≡ wrong_length n width length }
 {
     let all = n * width;
     length != all
@@ -92,7 +92,7 @@ pub fn bad_length(n: usize, width: usize, length: usize) -> bool
 // 8, the length alone, of a wide table
 pub fn bad_wide_length(n: usize, degree: usize, length: usize) -> bool
     requires { (n ≤ 65536) × (degree ≤ 64) }
-    ensures { result ≡ wrongLength n (slack degree) length }
+    ensures { result ≡ wrong_length n (slack degree) length }
 {
     let width = slack(degree);
     bad_length(n, width, length)

@@ -1,12 +1,12 @@
 // 10: the scratch, and the outputs that are no tables, by their lengths.
 
 ghost use Rattle.std.specs.Prelude.{◌≡◌, ◌≤◌};
-ghost use Rattle.definition.specs.Refusals.{mostAnswers};
-ghost use Rattle.checks.specs.Lengths.{buildShort, searchShortBy};
+ghost use Rattle.definition.specs.Refusals.{most_answers};
+ghost use Rattle.checks.specs.Lengths.{build_short, search_short_by};
 
 // How many answers a search gives at most.
 pub fn most_answers(beam: usize, k: usize) -> usize
-    ensures { result ≡ mostAnswers beam k }
+    ensures { result ≡ most_answers beam k }
 {
     if beam == 0 {
         if k == 0 {
@@ -32,7 +32,7 @@ pub fn search_short(
     run: usize,
 ) -> bool
     requires { n ≤ 65536 }
-    ensures { result ≡ searchShortBy n beam k words floats ids dists run }
+    ensures { result ≡ search_short_by n beam k words floats ids dists run }
 {
     let w = n + 512;
     if words < w {
@@ -54,7 +54,7 @@ pub fn search_short(
 // Of a batch, close or whole build.
 pub fn build_short(n: usize, words: usize, floats: usize) -> bool
     requires { n ≤ 65536 }
-    ensures { result ≡ buildShort n words floats }
+    ensures { result ≡ build_short n words floats }
 {
     let w = 6 * n + 32768;
     if words < w {

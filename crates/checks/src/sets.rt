@@ -2,7 +2,7 @@
 
 ghost use Rattle.std.specs.Prelude.{◌≡◌, ◌*◌, ◌≤◌, not, length};
 ghost use Rattle.definition.specs.Lists.{groups, each};
-ghost use Rattle.definition.specs.Refusals.{goodGroup, badSeeds, badNodes, bad_order, badPivots};
+ghost use Rattle.definition.specs.Refusals.{good_group, bad_seeds, bad_nodes, bad_order, bad_pivots};
 ghost use Rattle.checks.specs.Below.{all_below};
 
 use super::limits::bad_extra;
@@ -28,7 +28,7 @@ pub fn all_below(n: usize, ids: &[u32]) -> bool
 // 9, the nodes of a batch
 pub fn bad_nodes(n: usize, nodes: &[u32]) -> bool
     requires { n ≤ 65536 }
-    ensures { result ≡ badNodes n nodes.now }
+    ensures { result ≡ bad_nodes n nodes.now }
 {
     if 256 < nodes.len() {
         return true;
@@ -56,7 +56,7 @@ pub fn bad_order(n: usize, order: &[u32]) -> bool
 // 12
 pub fn bad_pivots(n: usize, pivots: &[u32]) -> bool
     requires { n ≤ 65536 }
-    ensures { result ≡ badPivots n pivots.now }
+    ensures { result ≡ bad_pivots n pivots.now }
 {
     if pivots.len() == 0 {
         return true;
@@ -69,7 +69,7 @@ pub fn bad_pivots(n: usize, pivots: &[u32]) -> bool
 
 // Whether a seed of the group is not below n, equals the start, or stands again further on.
 pub fn bad_group(n: usize, start: u32, group: &[u32]) -> bool
-    ensures { result ≡ not (goodGroup n start group.now) }
+    ensures { result ≡ not (good_group n start group.now) }
 {
     let mut i = 0;
     while i < group.len() {
@@ -92,7 +92,7 @@ pub fn bad_group(n: usize, start: u32, group: &[u32]) -> bool
 // Whether one of the groups is bad; there are `count` of `extra` seeds each.
 fn bad_groups(n: usize, start: u32, extra: usize, count: usize, seeds: &[u32]) -> bool
     requires { length seeds.now ≡ count * extra }
-    ensures { result ≡ not (each (goodGroup n start) (groups count extra seeds.now)) }
+    ensures { result ≡ not (each (good_group n start) (groups count extra seeds.now)) }
 {
     let mut g = 0;
     while g < count {
@@ -108,7 +108,7 @@ fn bad_groups(n: usize, start: u32, extra: usize, count: usize, seeds: &[u32]) -
 
 // 7. The length is compared by a division: the product of count and extra may be too large.
 pub fn bad_seeds(n: usize, extra: usize, start: u32, count: usize, seeds: &[u32]) -> bool
-    ensures { result ≡ badSeeds n extra start count seeds.now }
+    ensures { result ≡ bad_seeds n extra start count seeds.now }
 {
     if bad_extra(n, extra) {
         return true;

@@ -1,8 +1,8 @@
 // 8: the search rule and the build rule.
 
 ghost use Rattle.std.specs.Prelude.{◌≡◌, ◌*◌, ◌≤◌, not, length};
-ghost use Rattle.definition.specs.Tables.{searchRule, buildRow, buildRule};
-ghost use Rattle.definition.specs.Refusals.{badSearched, badTable};
+ghost use Rattle.definition.specs.Tables.{search_rule, build_row, build_rule};
+ghost use Rattle.definition.specs.Refusals.{bad_searched, bad_table};
 ghost use Rattle.definition.specs.Slack.{slack};
 ghost use Rattle.checks.specs.Front.{entries};
 ghost use Rattle.checks.specs.Rows.{RowReady};
@@ -15,7 +15,7 @@ use table::{only_padding, slack};
 // there is no way out of the loop, so that it is done on several words at once.
 pub fn has_foreign(n: usize, words: &[u32]) -> bool
     requires { n ≤ 65536 }
-    ensures { result ≡ not (searchRule n words.now) }
+    ensures { result ≡ not (search_rule n words.now) }
 {
     let most = n as u32;
     let mut found = false;
@@ -33,7 +33,7 @@ pub fn has_foreign(n: usize, words: &[u32]) -> bool
 // A table that is searched: one pass over it.
 pub fn bad_searched(n: usize, degree: usize, table: &[u32]) -> bool
     requires { (n ≤ 65536) × (degree ≤ 64) }
-    ensures { result ≡ badSearched n degree table.now }
+    ensures { result ≡ bad_searched n degree table.now }
 {
     if bad_length(n, degree, table.len()) {
         return true;
@@ -61,7 +61,7 @@ pub fn count_entries(n: usize, words: &[u32]) -> usize
 // Whether the row of `own` breaks the build rule. Where only padding stands beyond as many words as there are ids below n, those words are the ids.
 fn bad_row(n: usize, own: usize, marks: &mut [u8], words: &[u32]) -> bool
     requires { RowReady n own marks.old words.now }
-    ensures { result ≡ not (buildRow n own words.now) }
+    ensures { result ≡ not (build_row n own words.now) }
 {
     let count = count_entries(n, words);
     if !only_padding(&words[count..]) {
@@ -73,7 +73,7 @@ fn bad_row(n: usize, own: usize, marks: &mut [u8], words: &[u32]) -> bool
 // Whether a row breaks the build rule: one pass over the table.
 fn bad_rows(n: usize, width: usize, table: &[u32]) -> bool
     requires { (n ≤ 65536) × (width ≤ 128) × (length table.now ≡ n * width) }
-    ensures { result ≡ not (buildRule n width table.now) }
+    ensures { result ≡ not (build_rule n width table.now) }
 {
     let mut marks = [0u8; 16384];
     let mut i = 0;
@@ -91,7 +91,7 @@ fn bad_rows(n: usize, width: usize, table: &[u32]) -> bool
 // A table that is read under the build rule.
 pub fn bad_table(n: usize, width: usize, table: &[u32]) -> bool
     requires { (n ≤ 65536) × (width ≤ 128) }
-    ensures { result ≡ badTable n width table.now }
+    ensures { result ≡ bad_table n width table.now }
 {
     if bad_length(n, width, table.len()) {
         return true;
@@ -102,7 +102,7 @@ pub fn bad_table(n: usize, width: usize, table: &[u32]) -> bool
 // A wide table, by the degree: its rows have slack(degree) words.
 pub fn bad_wide(n: usize, degree: usize, table: &[u32]) -> bool
     requires { (n ≤ 65536) × (degree ≤ 64) }
-    ensures { result ≡ badTable n (slack degree) table.now }
+    ensures { result ≡ bad_table n (slack degree) table.now }
 {
     let width = slack(degree);
     bad_table(n, width, table)

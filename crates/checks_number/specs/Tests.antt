@@ -14,10 +14,10 @@ number_of [] = 0
 number_of (t ∷ ts) = t.0 when t.1 else number_of ts
 
 -- test i, and its number
-unfoldable pub holdsAt : Tests → ℕ → Bool
-holdsAt [] i = false
-holdsAt (t ∷ ts) zero = t.1
-holdsAt (t ∷ ts) (suc i) = holdsAt ts i
+unfoldable pub holds_at : Tests → ℕ → Bool
+holds_at [] i = false
+holds_at (t ∷ ts) zero = t.1
+holds_at (t ∷ ts) (suc i) = holds_at ts i
 
 unfoldable pub number_at : Tests → ℕ → ℕ
 number_at [] i = 0
@@ -26,37 +26,37 @@ number_at (t ∷ ts) (suc i) = number_at ts i
 
 -- the first k tests do not hold
 pub record Clear (k : ℕ) (ts : Tests) : Type 0 where
-  pub no : (i : ℕ) → holdsAt (take k ts) i ≡ false
+  pub no : (i : ℕ) → holds_at (take k ts) i ≡ false
 
 pub none_yet : (ts : Tests) → Clear 0 ts
-unfolding holdsAt
+unfolding holds_at
 none_yet ts = record { no = λ i. refl }
 
 -- one more does not, by what the code found
-past-at : (k : ℕ) (ts : Tests) → ((i : ℕ) → holdsAt (take k ts) i ≡ false) → holdsAt ts k ≡ false → (i : ℕ) → holdsAt (take (suc k) ts) i ≡ false
-unfolding holdsAt
+past-at : (k : ℕ) (ts : Tests) → ((i : ℕ) → holds_at (take k ts) i ≡ false) → holds_at ts k ≡ false → (i : ℕ) → holds_at (take (suc k) ts) i ≡ false
+unfolding holds_at
 past-at k [] c e i = refl
 past-at zero (t ∷ ts) c e zero = e
 past-at zero (t ∷ ts) c e (suc i) = refl
 past-at (suc k) (t ∷ ts) c e zero = c zero
 past-at (suc k) (t ∷ ts) c e (suc i) = past-at k ts (λ j. c (suc j)) e i
 
-pub past_one : {k : ℕ} {ts : Tests} {r : Bool} → Clear k ts → r ≡ holdsAt ts k → r ≡ false → Clear (suc k) ts
+pub past_one : {k : ℕ} {ts : Tests} {r : Bool} → Clear k ts → r ≡ holds_at ts k → r ≡ false → Clear (suc k) ts
 past_one {k} {ts} c e f = record { no = past-at k ts c.no (sym e ∙ f) }
 
 -- the next one does
-found_at : (k : ℕ) (ts : Tests) → ((i : ℕ) → holdsAt (take k ts) i ≡ false) → holdsAt ts k ≡ true → number_at ts k ≡ number_of ts
-unfolding holdsAt number_at number_of
+found_at : (k : ℕ) (ts : Tests) → ((i : ℕ) → holds_at (take k ts) i ≡ false) → holds_at ts k ≡ true → number_at ts k ≡ number_of ts
+unfolding holds_at number_at number_of
 found_at k [] c e = absurd (false≢true e)
 found_at zero (t ∷ ts) c e = sym (stop t.0 t.1 (number_of ts) e)
 found_at (suc k) (t ∷ ts) c e = found_at k ts (λ j. c (suc j)) e ∙ sym (past t.0 t.1 (number_of ts) (c zero))
 
-pub found : {k : ℕ} {ts : Tests} {r : Bool} → Clear k ts → r ≡ holdsAt ts k → r ≡ true → number_at ts k ≡ number_of ts
+pub found : {k : ℕ} {ts : Tests} {r : Bool} → Clear k ts → r ≡ holds_at ts k → r ≡ true → number_at ts k ≡ number_of ts
 found {k} {ts} c e f = found_at k ts c.no (sym e ∙ f)
 
 -- none does
-none-at : (ts : Tests) → ((i : ℕ) → holdsAt (take (length ts) ts) i ≡ false) → 0 ≡ number_of ts
-unfolding holdsAt number_of
+none-at : (ts : Tests) → ((i : ℕ) → holds_at (take (length ts) ts) i ≡ false) → 0 ≡ number_of ts
+unfolding holds_at number_of
 none-at [] c = refl
 none-at (t ∷ ts) c = none-at ts (λ j. c (suc j)) ∙ sym (past t.0 t.1 (number_of ts) (c zero))
 
@@ -64,8 +64,8 @@ pub nothing : {ts : Tests} → Clear (length ts) ts → 0 ≡ number_of ts
 nothing {ts} c = none-at ts c.no
 
 -- the first k do not: the number is that of the rest
-rest_at : (k : ℕ) (ts : Tests) → ((i : ℕ) → holdsAt (take k ts) i ≡ false) → number_of (drop k ts) ≡ number_of ts
-unfolding holdsAt number_of
+rest_at : (k : ℕ) (ts : Tests) → ((i : ℕ) → holds_at (take k ts) i ≡ false) → number_of (drop k ts) ≡ number_of ts
+unfolding holds_at number_of
 rest_at zero ts c = refl
 rest_at (suc k) [] c = refl
 rest_at (suc k) (t ∷ ts) c = rest_at k ts (λ j. c (suc j)) ∙ sym (past t.0 t.1 (number_of ts) (c zero))
@@ -78,8 +78,8 @@ unfoldable pub numbered : Tests → Bool
 numbered [] = true
 numbered (t ∷ ts) = ltb 0 t.0 && numbered ts
 
-pub cleared : (ts : Tests) → numbered ts ≡ true → number_of ts ≡ 0 → (i : ℕ) → holdsAt ts i ≡ false
-unfolding numbered number_of holdsAt
+pub cleared : (ts : Tests) → numbered ts ≡ true → number_of ts ≡ 0 → (i : ℕ) → holds_at ts i ≡ false
+unfolding numbered number_of holds_at
 cleared [] p e i = refl
 cleared (t ∷ ts) p e i =
     let b = and_both (ltb 0 t.0) (numbered ts) p in
@@ -88,7 +88,7 @@ cleared (t ∷ ts) p e i =
     let s = passed (t.0 - 1) t.1 (number_of ts) (subst (λ (k : ℕ). (k when t.1 else number_of ts) ≡ 0) k e) in
     at s.0 (λ j. cleared ts b.1 s.1 j) i
   where
-    at : t.1 ≡ false → ((j : ℕ) → holdsAt ts j ≡ false) → (i : ℕ) → holdsAt (t ∷ ts) i ≡ false
+    at : t.1 ≡ false → ((j : ℕ) → holds_at ts j ≡ false) → (i : ℕ) → holds_at (t ∷ ts) i ≡ false
     at here later zero = here
     at here later (suc j) = later j
 

@@ -4,8 +4,8 @@
 ghost use Rattle.std.specs.Prelude.{◌≡◌, ◌≤◌};
 ghost use Rattle.definition.specs.Tables.{cleaned};
 ghost use Rattle.checks_number.specs.Tests.{number_of};
-ghost use Rattle.checks_number.specs.Shared.{entryTests, paramTests};
-ghost use Rattle.checks_number.specs.SearchNumber.{limitTests, lengthTests, SearchNumbered};
+ghost use Rattle.checks_number.specs.Shared.{entry_tests, param_tests};
+ghost use Rattle.checks_number.specs.SearchNumber.{limit_tests, length_tests, SearchNumbered};
 ghost use Rattle.checks_number.specs.FitNumber.{FitNumbered};
 ghost use Rattle.checks_number.specs.BuildNumbers.{BatchNumbered, OpenNumbered, CloseNumbered, BuildNumbered};
 ghost use Rattle.checks_number.specs.MedoidNumber.{MedoidNumbered};
@@ -21,7 +21,7 @@ use definition::Params;
 
 // 1 and 2, which most calls begin with.
 pub fn entries_number(n: usize, dim: usize, vectors: &[u8]) -> u32
-    ensures { result ≡ number_of (entryTests n dim vectors.now) }
+    ensures { result ≡ number_of (entry_tests n dim vectors.now) }
 {
     if bad_dim(dim) {
         return 1;
@@ -34,7 +34,7 @@ pub fn entries_number(n: usize, dim: usize, vectors: &[u8]) -> u32
 
 // 1 to 6, which a batch and a whole build begin with.
 fn params_number(n: usize, dim: usize, vectors: &[u8], params: Params, start: u32) -> u32
-    ensures { result ≡ number_of (paramTests n dim vectors.now params start) }
+    ensures { result ≡ number_of (param_tests n dim vectors.now params start) }
 {
     let early = entries_number(n, dim, vectors);
     if early != 0 {
@@ -64,7 +64,7 @@ pub fn limits_number(
     beam: usize,
     start: u32,
 ) -> u32
-    ensures { result ≡ number_of (limitTests n dim vectors.now degree beam start) }
+    ensures { result ≡ number_of (limit_tests n dim vectors.now degree beam start) }
 {
     let early = entries_number(n, dim, vectors);
     if early != 0 {
@@ -96,7 +96,7 @@ fn lengths_number(
     run: usize,
 ) -> u32
     requires { n ≤ 65536 }
-    ensures { result ≡ number_of (lengthTests n dim beam k query.now words floats ids dists run) }
+    ensures { result ≡ number_of (length_tests n dim beam k query.now words floats ids dists run) }
 {
     if search_short(n, beam, k, words, floats, ids, dists, run) {
         return 10;

@@ -2,8 +2,8 @@
 // its length, the queries too.
 
 ghost use Rattle.std.specs.Prelude.{◌≡◌, ◌≤◌};
-ghost use Rattle.definition.specs.Refusals.{badK};
-ghost use Rattle.checks_recall.specs.Lengths.{nearestShort, reportShort, wrongQueries};
+ghost use Rattle.definition.specs.Refusals.{bad_k};
+ghost use Rattle.checks_recall.specs.Lengths.{nearest_short, report_short, wrong_queries};
 ghost use Rattle.checks_recall.specs.ExhaustiveNumber.{ExhaustiveNumbered};
 ghost use Rattle.checks_recall.specs.ReportNumber.{ReportNumbered};
 
@@ -13,7 +13,7 @@ use laws::least;
 
 // 14
 fn bad_k(k: usize) -> bool
-    ensures { result ≡ badK k }
+    ensures { result ≡ bad_k k }
 {
     if k == 0 {
         return true;
@@ -23,7 +23,7 @@ fn bad_k(k: usize) -> bool
 
 // 10, of an exhaustive search.
 fn nearest_short(n: usize, k: usize, ids: usize, dists: usize) -> bool
-    ensures { result ≡ nearestShort n k ids dists }
+    ensures { result ≡ nearest_short n k ids dists }
 {
     let most = least(k, n);
     if ids < most {
@@ -35,7 +35,7 @@ fn nearest_short(n: usize, k: usize, ids: usize, dists: usize) -> bool
 // 10, of a report.
 fn report_short(n: usize, words: usize, floats: usize) -> bool
     requires { n ≤ 65536 }
-    ensures { result ≡ reportShort n words floats }
+    ensures { result ≡ report_short n words floats }
 {
     let w = n + 1024;
     if words < w {
@@ -47,7 +47,7 @@ fn report_short(n: usize, words: usize, floats: usize) -> bool
 // 11, of queries one after another.
 fn bad_queries(dim: usize, queries: usize) -> bool
     requires { 1 ≤ dim }
-    ensures { result ≡ wrongQueries dim queries }
+    ensures { result ≡ wrong_queries dim queries }
 {
     let left = queries % dim;
     if left != 0 {

@@ -12,8 +12,8 @@ use Rattle.std.proofs.lemmas.Nat.{or_shr, or_mod, shl-shr}
 use Rattle.std.proofs.Math.ListN.{length-set}
 use Rattle.std.proofs.lemmas.List.{length-replicate}
 use Rattle.std.proofs.Math.Pow.{pow-lt, shl_exact}
-use Rattle.definition.specs.Lists.{isIn, distinct}
-use Rattle.checks_repeats.specs.Apart.{apart, apart_none, apart-step, apart-end}
+use Rattle.definition.specs.Lists.{is_in, distinct}
+use Rattle.checks_repeats.specs.Apart.{apart, apart_none, apart_step, apart_end}
 
 pub record Small (ids : List ℕ) : Type 0 where
   pub at : (i : ℕ) → get_or ids i 0 < 65536
@@ -48,13 +48,13 @@ one-other k j ne = go (ltb k j) refl
         ∙ ap (λ (x : ℕ). x % 2) (pow-suc 2 d)
         ∙ mul-mod_left (2 ^ d) 2
 
-digit-two : (w k : ℕ) → digit w k < 2
+digit_two : (w k : ℕ) → digit w k < 2
 unfolding digit
-digit-two w k = mod-lt (w / 2 ^ k) (omega arith)
+digit_two w k = mod-lt (w / 2 ^ k) (omega arith)
 
 -- a bit that is set, and the others of its word
 bit-set : (w k : ℕ) → eqb (digit (bit_or w (2 ^ k)) k) 1 ≡ true
-bit-set w k = rw (digit_or w (2 ^ k) k, one_same k) (go (digit w k) (digit-two w k))
+bit-set w k = rw (digit_or w (2 ^ k) k, one_same k) (go (digit w k) (digit_two w k))
   where
     go : (d : ℕ) → d < 2 → eqb (bit_or d 1) 1 ≡ true
     go zero l = refl
@@ -68,10 +68,10 @@ bit_kept w k j ne = digit_or w (2 ^ k) j ∙ ap (λ (x : ℕ). bit_or (digit w j
 
 pub record Held (bits seen : List ℕ) : Type 0 where
   pub size : length bits ≡ 1024
-  pub at : (y : ℕ) → eqb (digit (get_or bits (y % 1024) 0) (y / 1024)) 1 ≡ isIn y seen
+  pub at : (y : ℕ) → eqb (digit (get_or bits (y % 1024) 0) (y / 1024)) 1 ≡ is_in y seen
 
 held_none : Held (replicate 1024 0) []
-unfolding digit isIn
+unfolding digit is_in
 held_none = record { size = length-replicate {A = ℕ} 1024 0; at = λ y. rw (none 1024 (y % 1024), zero-div (2 ^ (y / 1024))) refl }
   where
     none : (k x : ℕ) → ◌≡◌ {A = ℕ} (get_or {A = ℕ} (replicate {A = ℕ} k 0) x 0) 0
@@ -86,9 +86,9 @@ module _ (bits seen : List ℕ) (x : ℕ) (h : Held bits seen) where
   inside : x % 1024 < length bits
   inside = let l = mod-lt x {m = 1024} (omega arith) in omega (arith, h.size)
 
-  held-put : Held put (x ∷ seen)
-  unfolding isIn put
-  held-put = record { size = length-set bits (x % 1024) _ ∙ h.size; at = λ y. go y (eqb y x) refl }
+  held_put : Held put (x ∷ seen)
+  unfolding is_in put
+  held_put = record { size = length-set bits (x % 1024) _ ∙ h.size; at = λ y. go y (eqb y x) refl }
     where
       word : ℕ
       word = bit_or (get_or bits (x % 1024) 0) (2 ^ (x / 1024))
@@ -105,7 +105,7 @@ module _ (bits seen : List ℕ) (x : ℕ) (h : Held bits seen) where
           ∙ ap (λ (k : ℕ). digit (get_or bits k 0) (y / 1024)) (sym q)
       other y false ne e = ap (λ (w : ℕ). digit w (y / 1024)) (get_or-set_other bits (x % 1024) (y % 1024) word 0 (eqb-false _ _ e))
 
-      go : (y : ℕ) (t : Bool) → eqb y x ≡ t → eqb (digit (get_or (set bits (x % 1024) word) (y % 1024) 0) (y / 1024)) 1 ≡ (t || isIn y seen)
+      go : (y : ℕ) (t : Bool) → eqb y x ≡ t → eqb (digit (get_or (set bits (x % 1024) word) (y % 1024) 0) (y / 1024)) 1 ≡ (t || is_in y seen)
       go y true e =
           let q = eqb-true y x e in
           ap (λ (k : ℕ). eqb (digit (get_or (set bits (x % 1024) word) (k % 1024) 0) (k / 1024)) 1) q
@@ -124,16 +124,16 @@ pub pass-start : (ids : List ℕ) → Passing ids 0 (replicate 1024 0)
 pass-start ids = record { upto = omega arith; seen = []; held = held_none; same = apart_none ids }
 
 module _ (ids : List ℕ) (i : ℕ) (bits : List ℕ) (w : Passing ids i bits) where
-  pub pass-end : length ids ≤ i → false ≡ not (distinct ids)
-  pass-end h = ap not (sym (apart-end w.seen ids i h) ∙ w.same)
+  pub pass_end : length ids ≤ i → false ≡ not (distinct ids)
+  pass_end h = ap not (sym (apart_end w.seen ids i h) ∙ w.same)
 
   module _ (h : i < length ids) (x : ℕ) (x-is : x ≡ get_or ids i 0) where
     -- its bit is set
-    pub pass-again : get_or bits (x % 1024) 0 / 2 ^ (x / 1024) % 2 ≡ 1 → true ≡ not (distinct ids)
+    pub pass_again : get_or bits (x % 1024) 0 / 2 ^ (x / 1024) % 2 ≡ 1 → true ≡ not (distinct ids)
     unfolding digit
-    pass-again e =
-        let known : isIn x w.seen ≡ true = sym (w.held.at x) ∙ eq-eqb _ 1 e in
-        let again : apart w.seen (drop i ids) ≡ false = apart-step w.seen ids i h x x-is ∙ rw known refl in
+    pass_again e =
+        let known : is_in x w.seen ≡ true = sym (w.held.at x) ∙ eq-eqb _ 1 e in
+        let again : apart w.seen (drop i ids) ≡ false = apart_step w.seen ids i h x x-is ∙ rw known refl in
         ap not (sym again ∙ w.same)
 
     -- it is not
@@ -141,12 +141,12 @@ module _ (ids : List ℕ) (i : ℕ) (bits : List ℕ) (w : Passing ids i bits) w
         → Passing ids (i + 1) (set bits (x % 1024) (bit_or (get_or bits (x % 1024) 0) (1 * 2 ^ (x / 1024) % 2 ^ 64)))
     unfolding digit put
     pass_on l e =
-        let new : isIn x w.seen ≡ false = sym (w.held.at x) ∙ ne_eqb _ 1 e in
+        let new : is_in x w.seen ≡ false = sym (w.held.at x) ∙ ne_eqb _ 1 e in
         let few : x / 1024 < 64 = omega arith in
         let bit : 1 * 2 ^ (x / 1024) % 2 ^ 64 ≡ 2 ^ (x / 1024) = shl_exact 1 (x / 1024) 64 (omega arith) (omega arith) ∙ one-mul _ in
         record {
           upto = omega arith;
           seen = x ∷ w.seen;
-          held = rw bit (held-put bits w.seen x w.held);
-          same = sym (apart-step w.seen ids i h x x-is ∙ rw new refl) ∙ w.same;
+          held = rw bit (held_put bits w.seen x w.held);
+          same = sym (apart_step w.seen ids i h x x-is ∙ rw new refl) ∙ w.same;
         }

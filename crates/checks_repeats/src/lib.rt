@@ -1,13 +1,13 @@
 // Whether an id stands twice: one pass over the ids, with little room.
 
 ghost use Rattle.std.specs.Prelude.{◌≡◌, not, [], ◌∷◌, length};
-ghost use Rattle.definition.specs.Lists.{isIn, distinct};
+ghost use Rattle.definition.specs.Lists.{is_in, distinct};
 ghost use Rattle.checks_repeats.specs.Apart.{apart};
 ghost use Rattle.checks_repeats.specs.Bits.{Small};
 
 // Whether x stands among the ids. There is no way out of the loop, so that several ids are looked at at once.
 pub fn is_among(x: u32, ids: &[u32]) -> bool
-    ensures { result ≡ isIn x ids.now }
+    ensures { result ≡ is_in x ids.now }
 {
     let mut found = false;
     let mut i = 0;

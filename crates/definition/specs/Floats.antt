@@ -10,8 +10,8 @@ nought = of_bits binary32 0
 unfoldable pub one : Float
 one = of_bits binary32 0x3F800000
 
-unfoldable pub onePointTwo : Float
-onePointTwo = of_bits binary32 0x3F99999A
+unfoldable pub one_point_two : Float
+one_point_two = of_bits binary32 0x3F99999A
 
 unfoldable pub four : Float
 four = of_bits binary32 0x40800000

@@ -36,19 +36,19 @@ run i (suc k) = i ∷ run (suc i) k
 unfoldable pub upto : ℕ → List ℕ
 upto n = run 0 n
 
-unfoldable pub isIn : ℕ → List ℕ → Bool
-isIn x [] = false
-isIn x (y ∷ ys) = eqb x y || isIn x ys
+unfoldable pub is_in : ℕ → List ℕ → Bool
+is_in x [] = false
+is_in x (y ∷ ys) = eqb x y || is_in x ys
 
 -- no number stands twice
 unfoldable pub distinct : List ℕ → Bool
 distinct [] = true
-distinct (x ∷ xs) = not (isIn x xs) && distinct xs
+distinct (x ∷ xs) = not (is_in x xs) && distinct xs
 
 -- each number once, at its first place, without those of `seen`
-unfoldable pub onceOnly : List ℕ → List ℕ → List ℕ
-onceOnly seen [] = []
-onceOnly seen (x ∷ xs) = let a = onceOnly seen xs in let b = x ∷ onceOnly (x ∷ seen) xs in cond (isIn x seen) a b
+unfoldable pub once_only : List ℕ → List ℕ → List ℕ
+once_only seen [] = []
+once_only seen (x ∷ xs) = let a = once_only seen xs in let b = x ∷ once_only (x ∷ seen) xs in cond (is_in x seen) a b
 
 -- all added up
 unfoldable pub total : List ℕ → ℕ
@@ -57,7 +57,7 @@ total (x ∷ xs) = x + total xs
 
 -- sorted by id, once each
 unfoldable pub rising : List ℕ → List ℕ
-rising xs = sort ltb (onceOnly [] xs)
+rising xs = sort ltb (once_only [] xs)
 
 -- the list cut into k groups of g
 unfoldable pub groups : ℕ → ℕ → List ℕ → List (List ℕ)

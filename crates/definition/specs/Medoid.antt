@@ -5,12 +5,12 @@ use Rattle.std.specs.Float.Ieee.{add, lt}
 use Rattle.definition.specs.Metric.{whole}
 use Rattle.definition.specs.Floats.{nought}
 
-unfoldable pub scoreFrom : (ℕ → ℕ) → Float → List ℕ → Float
-scoreFrom d total [] = total
-scoreFrom d total (p ∷ ps) = scoreFrom d (add binary32 total (whole (d p))) ps
+unfoldable pub score_from : (ℕ → ℕ) → Float → List ℕ → Float
+score_from d total [] = total
+score_from d total (p ∷ ps) = score_from d (add binary32 total (whole (d p))) ps
 
 unfoldable pub score : (ℕ → ℕ → ℕ) → List ℕ → ℕ → Float
-score pair pivots i = scoreFrom (pair i) nought pivots
+score pair pivots i = score_from (pair i) nought pivots
 
 -- the least score so far, and whose
 pub record Leader : Type 0 where

@@ -30,8 +30,8 @@ unfoldable pub vector : ℕ → List ℕ → ℕ → List ℕ
 vector dim vectors i = take dim (drop (i * dim) vectors)
 
 -- the distance from a query to entry i, and between entries i and j
-unfoldable pub fromQuery : ℕ → List ℕ → List ℕ → ℕ → ℕ
-fromQuery dim vectors query i = metric query (vector dim vectors i)
+unfoldable pub from_query : ℕ → List ℕ → List ℕ → ℕ → ℕ
+from_query dim vectors query i = metric query (vector dim vectors i)
 
 unfoldable pub between : ℕ → List ℕ → ℕ → ℕ → ℕ
 between dim vectors i j = metric (vector dim vectors i) (vector dim vectors j)

@@ -4,7 +4,7 @@ use Rattle.std.specs.Prelude.{ℕ, ◌+◌, ◌*◌, ◌/◌, ◌%◌, min, max,
 use Rattle.definition.specs.declared.Params.{Params}
 use Rattle.definition.specs.declared.Candidate.{Candidate}
 use Rattle.definition.specs.Lists.{each, distinct, groups}
-use Rattle.definition.specs.Tables.{buildRule, searchRule}
+use Rattle.definition.specs.Tables.{build_rule, search_rule}
 use Rattle.definition.specs.Floats.{four, above}
 use Rattle.definition.specs.Slack.{slack}
 
@@ -16,92 +16,92 @@ k when false else r = r
 
 -- ---- the checks, by number
 
-unfoldable pub badDim : ℕ → Bool
-badDim dim = eqb dim 0 || ltb 256 dim
+unfoldable pub bad_dim : ℕ → Bool
+bad_dim dim = eqb dim 0 || ltb 256 dim
 
 -- n alone, for a call with no vectors; and n with the vectors
-unfoldable pub badCount : ℕ → Bool
-badCount n = eqb n 0 || ltb 65536 n
+unfoldable pub bad_count : ℕ → Bool
+bad_count n = eqb n 0 || ltb 65536 n
 
-unfoldable pub badVectors : ℕ → ℕ → List ℕ → Bool
-badVectors n dim vectors = badCount n || not (eqb (length vectors) (n * dim))
+unfoldable pub bad_vectors : ℕ → ℕ → List ℕ → Bool
+bad_vectors n dim vectors = bad_count n || not (eqb (length vectors) (n * dim))
 
-unfoldable pub badDegree : ℕ → Bool
-badDegree degree = eqb degree 0 || ltb 64 degree
+unfoldable pub bad_degree : ℕ → Bool
+bad_degree degree = eqb degree 0 || ltb 64 degree
 
-unfoldable pub badBeam : ℕ → Bool
-badBeam beam = ltb 256 beam
+unfoldable pub bad_beam : ℕ → Bool
+bad_beam beam = ltb 256 beam
 
-unfoldable pub badAlpha : Float → Bool
-badAlpha alpha = above alpha four
+unfoldable pub bad_alpha : Float → Bool
+bad_alpha alpha = above alpha four
 
-unfoldable pub badStart : ℕ → ℕ → Bool
-badStart n start = leb n start
+unfoldable pub bad_start : ℕ → ℕ → Bool
+bad_start n start = leb n start
 
 -- the limits on extra seeds alone; and with the groups of seeds, `extra` for each of `count` nodes
-unfoldable pub badExtra : ℕ → ℕ → Bool
-badExtra n extra = ltb 16 extra || leb n extra
+unfoldable pub bad_extra : ℕ → ℕ → Bool
+bad_extra n extra = ltb 16 extra || leb n extra
 
-unfoldable pub goodGroup : ℕ → ℕ → List ℕ → Bool
-goodGroup n start group = each (λ s. ltb s n && not (eqb s start)) group && distinct group
+unfoldable pub good_group : ℕ → ℕ → List ℕ → Bool
+good_group n start group = each (λ s. ltb s n && not (eqb s start)) group && distinct group
 
-unfoldable pub badSeeds : ℕ → ℕ → ℕ → ℕ → List ℕ → Bool
-badSeeds n extra start count seeds =
-    badExtra n extra || (not (eqb (length seeds) (count * extra)) || not (each (goodGroup n start) (groups count extra seeds)))
+unfoldable pub bad_seeds : ℕ → ℕ → ℕ → ℕ → List ℕ → Bool
+bad_seeds n extra start count seeds =
+    bad_extra n extra || (not (eqb (length seeds) (count * extra)) || not (each (good_group n start) (groups count extra seeds)))
 
 -- a table to be written; one that is read under the build rule; one that is searched
-unfoldable pub badLength : ℕ → ℕ → List ℕ → Bool
-badLength n width table = not (eqb (length table) (n * width))
+unfoldable pub bad_length : ℕ → ℕ → List ℕ → Bool
+bad_length n width table = not (eqb (length table) (n * width))
 
-unfoldable pub badTable : ℕ → ℕ → List ℕ → Bool
-badTable n width table = badLength n width table || not (buildRule n width table)
+unfoldable pub bad_table : ℕ → ℕ → List ℕ → Bool
+bad_table n width table = bad_length n width table || not (build_rule n width table)
 
-unfoldable pub badSearched : ℕ → ℕ → List ℕ → Bool
-badSearched n degree table = badLength n degree table || not (searchRule n table)
+unfoldable pub bad_searched : ℕ → ℕ → List ℕ → Bool
+bad_searched n degree table = bad_length n degree table || not (search_rule n table)
 
-unfoldable pub badNodes : ℕ → List ℕ → Bool
-badNodes n nodes = ltb 256 (length nodes) || (not (each (λ u. ltb u n) nodes) || not (distinct nodes))
+unfoldable pub bad_nodes : ℕ → List ℕ → Bool
+bad_nodes n nodes = ltb 256 (length nodes) || (not (each (λ u. ltb u n) nodes) || not (distinct nodes))
 
 unfoldable pub bad_order : ℕ → List ℕ → Bool
 bad_order n order = not (eqb (length order) n) || (not (each (λ u. ltb u n) order) || not (distinct order))
 
 -- the room for a batch, close or whole build; for a search; and how many answers at most
-unfoldable pub buildWords : ℕ → ℕ
-buildWords n = 6 * n + 32768
+unfoldable pub build_words : ℕ → ℕ
+build_words n = 6 * n + 32768
 
-unfoldable pub buildFloats : ℕ → ℕ
-buildFloats n = 4 * n + 1024
+unfoldable pub build_floats : ℕ → ℕ
+build_floats n = 4 * n + 1024
 
-unfoldable pub searchWords : ℕ → ℕ
-searchWords n = n + 512
+unfoldable pub search_words : ℕ → ℕ
+search_words n = n + 512
 
-unfoldable pub searchFloats : ℕ
-searchFloats = 512
+unfoldable pub search_floats : ℕ
+search_floats = 512
 
-unfoldable pub mostAnswers : ℕ → ℕ → ℕ
-mostAnswers beam k = min k (max beam 1)
+unfoldable pub most_answers : ℕ → ℕ → ℕ
+most_answers beam k = min k (max beam 1)
 
 module _ {A : Type 0} where
   unfoldable pub short : ℕ → List A → Bool
   short room xs = ltb (length xs) room
 
-unfoldable pub badPivots : ℕ → List ℕ → Bool
-badPivots n pivots = eqb (length pivots) 0 || (ltb 8 (length pivots) || not (each (λ p. ltb p n) pivots))
+unfoldable pub bad_pivots : ℕ → List ℕ → Bool
+bad_pivots n pivots = eqb (length pivots) 0 || (ltb 8 (length pivots) || not (each (λ p. ltb p n) pivots))
 
 -- 14: how many of the nearest are asked for, where that has limits
-unfoldable pub badK : ℕ → Bool
-badK k = eqb k 0 || ltb 256 k
+unfoldable pub bad_k : ℕ → Bool
+bad_k k = eqb k 0 || ltb 256 k
 
 -- 11, of queries one after another: their bytes are no multiple of dim, or there are too many
-unfoldable pub badQueries : ℕ → List ℕ → Bool
-badQueries dim queries = not (eqb (length queries % dim) 0) || ltb 65535 (length queries / dim)
+unfoldable pub bad_queries : ℕ → List ℕ → Bool
+bad_queries dim queries = not (eqb (length queries % dim) 0) || ltb 65535 (length queries / dim)
 
 -- the room for a report: a search's, and 512 more of each kind
-unfoldable pub reportWords : ℕ → ℕ
-reportWords n = searchWords n + 512
+unfoldable pub report_words : ℕ → ℕ
+report_words n = search_words n + 512
 
-unfoldable pub reportFloats : ℕ
-reportFloats = searchFloats + 512
+unfoldable pub report_floats : ℕ
+report_floats = search_floats + 512
 
 -- ---- distance
 
@@ -109,9 +109,9 @@ pub record DistanceCall : Type 0 where
   pub first : List ℕ
   pub second : List ℕ
 
-unfoldable pub distanceNumber : DistanceCall → ℕ
-distanceNumber c =
-    1 when badDim (length c.first) else
+unfoldable pub distance_number : DistanceCall → ℕ
+distance_number c =
+    1 when bad_dim (length c.first) else
     11 when not (eqb (length c.first) (length c.second)) else
     0
 
@@ -129,18 +129,18 @@ pub record BatchCall : Type 0 where
   pub words : List ℕ
   pub floats : List Float
 
-unfoldable pub batchNumber : BatchCall → ℕ
-batchNumber c =
-    1 when badDim c.dim else
-    2 when badVectors c.n c.dim c.vectors else
-    3 when badDegree c.params.degree else
-    4 when badBeam c.params.beam else
-    5 when badAlpha c.params.alpha else
-    6 when badStart c.n c.start else
-    7 when badSeeds c.n c.params.extra c.start (length c.nodes) c.seeds else
-    8 when badTable c.n (slack c.params.degree) c.wide else
-    9 when badNodes c.n c.nodes else
-    10 when short (buildWords c.n) c.words || short (buildFloats c.n) c.floats else
+unfoldable pub batch_number : BatchCall → ℕ
+batch_number c =
+    1 when bad_dim c.dim else
+    2 when bad_vectors c.n c.dim c.vectors else
+    3 when bad_degree c.params.degree else
+    4 when bad_beam c.params.beam else
+    5 when bad_alpha c.params.alpha else
+    6 when bad_start c.n c.start else
+    7 when bad_seeds c.n c.params.extra c.start (length c.nodes) c.seeds else
+    8 when bad_table c.n (slack c.params.degree) c.wide else
+    9 when bad_nodes c.n c.nodes else
+    10 when short (build_words c.n) c.words || short (build_floats c.n) c.floats else
     0
 
 -- ---- open: opening rows are a closed table
@@ -151,11 +151,11 @@ pub record OpenCall : Type 0 where
   pub opening : List ℕ
   pub wide : List ℕ
 
-unfoldable pub openNumber : OpenCall → ℕ
-openNumber c =
-    2 when badCount c.n else
-    3 when badDegree c.degree else
-    8 when badTable c.n c.degree c.opening || badLength c.n (slack c.degree) c.wide else
+unfoldable pub open_number : OpenCall → ℕ
+open_number c =
+    2 when bad_count c.n else
+    3 when bad_degree c.degree else
+    8 when bad_table c.n c.degree c.opening || bad_length c.n (slack c.degree) c.wide else
     0
 
 -- ---- close
@@ -170,14 +170,14 @@ pub record CloseCall : Type 0 where
   pub words : List ℕ
   pub floats : List Float
 
-unfoldable pub closeNumber : CloseCall → ℕ
-closeNumber c =
-    1 when badDim c.dim else
-    2 when badVectors c.n c.dim c.vectors else
-    3 when badDegree c.params.degree else
-    5 when badAlpha c.params.alpha else
-    8 when badTable c.n (slack c.params.degree) c.wide || badLength c.n c.params.degree c.closed else
-    10 when short (buildWords c.n) c.words || short (buildFloats c.n) c.floats else
+unfoldable pub close_number : CloseCall → ℕ
+close_number c =
+    1 when bad_dim c.dim else
+    2 when bad_vectors c.n c.dim c.vectors else
+    3 when bad_degree c.params.degree else
+    5 when bad_alpha c.params.alpha else
+    8 when bad_table c.n (slack c.params.degree) c.wide || bad_length c.n c.params.degree c.closed else
+    10 when short (build_words c.n) c.words || short (build_floats c.n) c.floats else
     0
 
 -- ---- whole build
@@ -196,18 +196,18 @@ pub record BuildCall : Type 0 where
   pub words : List ℕ
   pub floats : List Float
 
-unfoldable pub buildNumber : BuildCall → ℕ
-buildNumber c =
-    1 when badDim c.dim else
-    2 when badVectors c.n c.dim c.vectors else
-    3 when badDegree c.params.degree else
-    4 when badBeam c.params.beam else
-    5 when badAlpha c.params.alpha else
-    6 when badStart c.n c.start else
-    7 when badSeeds c.n c.params.extra c.start c.n c.seeds else
-    8 when badTable c.n c.params.degree c.opening || (badLength c.n (slack c.params.degree) c.wide || badLength c.n c.params.degree c.closed) else
+unfoldable pub build_number : BuildCall → ℕ
+build_number c =
+    1 when bad_dim c.dim else
+    2 when bad_vectors c.n c.dim c.vectors else
+    3 when bad_degree c.params.degree else
+    4 when bad_beam c.params.beam else
+    5 when bad_alpha c.params.alpha else
+    6 when bad_start c.n c.start else
+    7 when bad_seeds c.n c.params.extra c.start c.n c.seeds else
+    8 when bad_table c.n c.params.degree c.opening || (bad_length c.n (slack c.params.degree) c.wide || bad_length c.n c.params.degree c.closed) else
     9 when bad_order c.n c.order else
-    10 when short (buildWords c.n) c.words || short (buildFloats c.n) c.floats else
+    10 when short (build_words c.n) c.words || short (build_floats c.n) c.floats else
     0
 
 -- ---- medoid
@@ -218,11 +218,11 @@ pub record MedoidCall : Type 0 where
   pub vectors : List ℕ
   pub pivots : List ℕ
 
-unfoldable pub medoidNumber : MedoidCall → ℕ
-medoidNumber c =
-    1 when badDim c.dim else
-    2 when badVectors c.n c.dim c.vectors else
-    12 when badPivots c.n c.pivots else
+unfoldable pub medoid_number : MedoidCall → ℕ
+medoid_number c =
+    1 when bad_dim c.dim else
+    2 when bad_vectors c.n c.dim c.vectors else
+    12 when bad_pivots c.n c.pivots else
     0
 
 -- ---- search; and with a run of records beside its two outputs
@@ -242,29 +242,29 @@ pub record SearchCall : Type 0 where
   pub ids : List ℕ
   pub dists : List Float
 
-unfoldable pub searchShort : SearchCall → Bool
-searchShort c =
-    short (searchWords c.n) c.words || (short searchFloats c.floats ||
-    (short (mostAnswers c.beam c.k) c.ids || short (mostAnswers c.beam c.k) c.dists))
+unfoldable pub search_short : SearchCall → Bool
+search_short c =
+    short (search_words c.n) c.words || (short search_floats c.floats ||
+    (short (most_answers c.beam c.k) c.ids || short (most_answers c.beam c.k) c.dists))
 
 -- `tooShort`: the answer to check 10
-unfoldable pub searchNumberAt : Bool → SearchCall → ℕ
-searchNumberAt tooShort c =
-    1 when badDim c.dim else
-    2 when badVectors c.n c.dim c.vectors else
-    3 when badDegree c.degree else
-    4 when badBeam c.beam else
-    6 when badStart c.n c.start else
-    8 when badSearched c.n c.degree c.table else
+unfoldable pub search_number_at : Bool → SearchCall → ℕ
+search_number_at tooShort c =
+    1 when bad_dim c.dim else
+    2 when bad_vectors c.n c.dim c.vectors else
+    3 when bad_degree c.degree else
+    4 when bad_beam c.beam else
+    6 when bad_start c.n c.start else
+    8 when bad_searched c.n c.degree c.table else
     10 when tooShort else
     11 when not (eqb (length c.query) c.dim) else
     0
 
-unfoldable pub searchNumber : SearchCall → ℕ
-searchNumber c = searchNumberAt (searchShort c) c
+unfoldable pub search_number : SearchCall → ℕ
+search_number c = search_number_at (search_short c) c
 
-unfoldable pub recordsNumber : SearchCall → List Candidate → ℕ
-recordsNumber c records = searchNumberAt (searchShort c || short (mostAnswers c.beam c.k) records) c
+unfoldable pub records_number : SearchCall → List Candidate → ℕ
+records_number c records = search_number_at (search_short c || short (most_answers c.beam c.k) records) c
 
 -- ---- fit: those checks of a search that concern its table alone, 2 by n alone
 
@@ -273,11 +273,11 @@ pub record FitCall : Type 0 where
   pub degree : ℕ
   pub table : List ℕ
 
-unfoldable pub fitNumber : FitCall → ℕ
-fitNumber c =
-    2 when badCount c.n else
-    3 when badDegree c.degree else
-    8 when badSearched c.n c.degree c.table else
+unfoldable pub fit_number : FitCall → ℕ
+fit_number c =
+    2 when bad_count c.n else
+    3 when bad_degree c.degree else
+    8 when bad_searched c.n c.degree c.table else
     0
 
 -- ---- exhaustive search
@@ -291,13 +291,13 @@ pub record ExhaustiveCall : Type 0 where
   pub ids : List ℕ
   pub dists : List Float
 
-unfoldable pub exhaustiveNumber : ExhaustiveCall → ℕ
-exhaustiveNumber c =
-    1 when badDim c.dim else
-    2 when badVectors c.n c.dim c.vectors else
+unfoldable pub exhaustive_number : ExhaustiveCall → ℕ
+exhaustive_number c =
+    1 when bad_dim c.dim else
+    2 when bad_vectors c.n c.dim c.vectors else
     10 when short (min c.k c.n) c.ids || short (min c.k c.n) c.dists else
     11 when not (eqb (length c.query) c.dim) else
-    14 when badK c.k else
+    14 when bad_k c.k else
     0
 
 -- ---- report: a search and an exhaustive search of each query; `queries` holds them one after another
@@ -315,17 +315,17 @@ pub record ReportCall : Type 0 where
   pub words : List ℕ
   pub floats : List Float
 
-unfoldable pub reportNumber : ReportCall → ℕ
-reportNumber c =
-    1 when badDim c.dim else
-    2 when badVectors c.n c.dim c.vectors else
-    3 when badDegree c.degree else
-    4 when badBeam c.beam else
-    6 when badStart c.n c.start else
-    8 when badSearched c.n c.degree c.table else
-    10 when short (reportWords c.n) c.words || short reportFloats c.floats else
-    11 when badQueries c.dim c.queries else
-    14 when badK c.k else
+unfoldable pub report_number : ReportCall → ℕ
+report_number c =
+    1 when bad_dim c.dim else
+    2 when bad_vectors c.n c.dim c.vectors else
+    3 when bad_degree c.degree else
+    4 when bad_beam c.beam else
+    6 when bad_start c.n c.start else
+    8 when bad_searched c.n c.degree c.table else
+    10 when short (report_words c.n) c.words || short report_floats c.floats else
+    11 when bad_queries c.dim c.queries else
+    14 when bad_k c.k else
     0
 
 -- ---- draws. A single draw is never refused
@@ -336,11 +336,11 @@ pub record RowsCall : Type 0 where
   pub table : List ℕ
   pub state : ℕ
 
-unfoldable pub rowsNumber : RowsCall → ℕ
-rowsNumber c =
-    2 when badCount c.n else
-    3 when badDegree c.degree else
-    8 when badLength c.n c.degree c.table else
+unfoldable pub rows_number : RowsCall → ℕ
+rows_number c =
+    2 when bad_count c.n else
+    3 when bad_degree c.degree else
+    8 when bad_length c.n c.degree c.table else
     0
 
 pub record SeedsCall : Type 0 where
@@ -350,11 +350,11 @@ pub record SeedsCall : Type 0 where
   pub out : List ℕ
   pub state : ℕ
 
-unfoldable pub seedsNumber : SeedsCall → ℕ
-seedsNumber c =
-    2 when badCount c.n else
-    6 when badStart c.n c.start else
-    7 when badExtra c.n c.extra else
+unfoldable pub seeds_number : SeedsCall → ℕ
+seeds_number c =
+    2 when bad_count c.n else
+    6 when bad_start c.n c.start else
+    7 when bad_extra c.n c.extra else
     10 when short c.extra c.out else
     0
 
@@ -364,14 +364,14 @@ pub record DrawsCall : Type 0 where
   pub out : List ℕ
   pub state : ℕ
 
-unfoldable pub orderNumber : DrawsCall → ℕ
-orderNumber c =
-    2 when badCount c.n else
+unfoldable pub order_number : DrawsCall → ℕ
+order_number c =
+    2 when bad_count c.n else
     10 when short c.n c.out else
     0
 
-unfoldable pub pivotsNumber : DrawsCall → ℕ
-pivotsNumber c =
-    2 when badCount c.n else
+unfoldable pub pivots_number : DrawsCall → ℕ
+pivots_number c =
+    2 when bad_count c.n else
     10 when short (min 8 c.n) c.out else
     0

@@ -6,12 +6,12 @@ use Rattle.definition.specs.Beam.{Item}
 use Rattle.definition.specs.Greedy.{State, greedy}
 
 -- x is listed before y: by distance, then the higher id, since ids rise with enrolment
-unfoldable pub listedFirst : Item → Item → Bool
-listedFirst x y = ltb x.dist y.dist || (eqb x.dist y.dist && ltb y.id x.id)
+unfoldable pub listed_first : Item → Item → Bool
+listed_first x y = ltb x.dist y.dist || (eqb x.dist y.dist && ltb y.id x.id)
 
 -- the items in the answers' order, cut to k
 unfoldable pub ranked : ℕ → List Item → List Item
-ranked k items = take k (sort listedFirst items)
+ranked k items = take k (sort listed_first items)
 
 unfoldable pub searched : (ℕ → ℕ) → (ℕ → List ℕ) → ℕ → ℕ → ℕ → State
 searched d rows n beam start = greedy d rows n (max beam 1) start

@@ -25,8 +25,8 @@ pub product : (a b : ℕ) → ((a % B) * (b % B) + ((a / B) * (b % B) + (a % B) 
 product a b = reduce (a * b) ((a / B) * (b / B)) ((a / B) * (b % B) + (a % B) * (b / B)) ((a % B) * (b % B))
     (sym (ap (λ (x : ℕ). x * b) (joined a)) ∙ sym (ap (λ (y : ℕ). (a / B * B + a % B) * y) (joined b)) ∙ expand (a / B) (a % B) (b / B) (b % B))
 
-pub quotient-lt : (x : ℕ) → x < 2 ^ 64 → x / B < 2 ^ 32
-quotient-lt x h = omega arith
+pub quotient_lt : (x : ℕ) → x < 2 ^ 64 → x / B < 2 ^ 32
+quotient_lt x h = omega arith
 
-pub add-mod : (p c : ℕ) → (p % N + c) % N ≡ (p + c) % N
-add-mod p c = omega arith
+pub add_mod : (p c : ℕ) → (p % N + c) % N ≡ (p + c) % N
+add_mod p c = omega arith

@@ -3,7 +3,7 @@ use Rattle.std.specs.Prelude.{◌≡◌, ℕ, suc, ◌+◌, ◌-◌, ◌<◌, �
 use Rattle.std.proofs.Common.{sym, ap, ◌∙◌, subst, arith, length-set, length-take-le, take_at, drop_at}
 use borrow.Rule.Slice.PartMut.{put_mid}
 use Rattle.definition.specs.Lists.{upto, over}
-use Rattle.definition.specs.Draws.{Drawn, advance, drawn, shuffled, exchanged, orderDrawn}
+use Rattle.definition.specs.Draws.{Drawn, advance, drawn, shuffled, exchanged, order_drawn}
 use Rattle.draws.specs.Says.{Leaves}
 use Rattle.laws.specs.Members.{length-upto}
 use Rattle.laws.specs.Parts.{part}
@@ -14,13 +14,13 @@ pub record Shuffling (o : List ℕ) (s₀ : ℕ) (out : List ℕ) (i s : ℕ) : 
   pub inside : i < length o
   pub leads : shuffled i out s ≡ shuffled (length o - 1) o s₀
 
-pub shuffle-start : (o : List ℕ) (s : ℕ) → 0 < length o → Shuffling o s o (length o - 1) s
-shuffle-start o s h = record { size = refl; inside = omega arith; leads = refl }
+pub shuffle_start : (o : List ℕ) (s : ℕ) → 0 < length o → Shuffling o s o (length o - 1) s
+shuffle_start o s h = record { size = refl; inside = omega arith; leads = refl }
 
-pub shuffle-turn : (o : List ℕ) (s₀ : ℕ) (out : List ℕ) (i s j s' : ℕ) → 0 < i → j ≡ drawn (i + 1) s' → s' ≡ advance s → Shuffling o s₀ out i s
+pub shuffle_turn : (o : List ℕ) (s₀ : ℕ) (out : List ℕ) (i s j s' : ℕ) → 0 < i → j ≡ drawn (i + 1) s' → s' ≡ advance s → Shuffling o s₀ out i s
     → Shuffling o s₀ (slice_set (slice_set out i (slice_index out j)) j (slice_index out i)) (i - 1) s'
 unfolding shuffled exchanged
-shuffle-turn o s₀ out i s j s' h e e' k =
+shuffle_turn o s₀ out i s j s' h e e' k =
     let w = shuffled (length o - 1) o s₀ in
     let swapped : ℕ → ℕ → List ℕ = λ p d. set (slice_set out p (slice_index out d)) d (slice_index out p) in
     let q : i ≡ suc (i - 1) = omega arith in
@@ -36,20 +36,20 @@ shuffle-turn o s₀ out i s j s' h e e' k =
           ∙ g;
     }
 
-pub shuffle-end : (o : List ℕ) (s₀ : ℕ) (out : List ℕ) (i s : ℕ) → i ≤ 0 → Shuffling o s₀ out i s
+pub shuffle_end : (o : List ℕ) (s₀ : ℕ) (out : List ℕ) (i s : ℕ) → i ≤ 0 → Shuffling o s₀ out i s
     → record { words = out; state = s } ≡ shuffled (length o - 1) o s₀
 unfolding shuffled
-shuffle-end o s₀ out i s h k =
+shuffle_end o s₀ out i s h k =
     let q : i ≡ 0 = omega arith in
     subst (λ (m : ℕ). shuffled m out s ≡ shuffled (length o - 1) o s₀) q k.leads
 
 -- both parts of an order: what the first left is shuffled by the second
-pub order-leaves : (n s s' : ℕ) (o ys zs : List ℕ) → n ≤ length o → ys ≡ upto (length (part 0 n o))
+pub order_leaves : (n s s' : ℕ) (o ys zs : List ℕ) → n ≤ length o → ys ≡ upto (length (part 0 n o))
     → length zs ≡ length (part 0 n (put_mid 0 (n - 0) o ys))
     → record { words = zs; state = s' } ≡ shuffled (length (part 0 n (put_mid 0 (n - 0) o ys)) - 1) (part 0 n (put_mid 0 (n - 0) o ys)) s
-    → Leaves (orderDrawn n s) o s' (put_mid 0 (n - 0) (put_mid 0 (n - 0) o ys) zs)
-unfolding orderDrawn over
-order-leaves n s s' o ys zs h up lz is =
+    → Leaves (order_drawn n s) o s' (put_mid 0 (n - 0) (put_mid 0 (n - 0) o ys) zs)
+unfolding order_drawn over
+order_leaves n s s' o ys zs h up lz is =
     let q : n - 0 ≡ n = omega arith in
     let lo : length (take (n - 0) o) ≡ n = length-take-le (n - 0) o (omega arith) ∙ q in
     let yu : ys ≡ upto n = up ∙ ap upto lo in
@@ -64,5 +64,5 @@ order-leaves n s s' o ys zs h up lz is =
     record {
       words_are =
           ap (λ (l : List ℕ). zs ++ l) pd ∙ ap (λ (l : List ℕ). l ++ drop (n - 0) o) ws ∙ ap (λ (m : ℕ). (shuffled (n - 1) (upto n) s).words ++ drop m o) lw;
-      state-is = ap (λ (d : Drawn). d.state) w;
+      state_is = ap (λ (d : Drawn). d.state) w;
     }

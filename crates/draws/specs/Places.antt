@@ -5,21 +5,21 @@ use Rattle.std.proofs.Math.Path.{subst}
 use Rattle.std.proofs.Math.Nat.{sub-zero}
 use native.Mathlib.Omega.{arith}
 use Rattle.definition.specs.Lists.{run, upto}
-use Rattle.laws.specs.Writing.{Writing, start, put, all-ends}
+use Rattle.laws.specs.Writing.{Writing, start, put, all_ends}
 
 -- f of m places: those from j on are still to be written
 abbrev pub Placing : (f : ℕ → ℕ) → ℕ → List ℕ → List ℕ → ℕ → Type 0
 Placing f m o out j = Writing (map f (upto m)) o out j (map f (run j (m - j)))
 
 module _ (f : ℕ → ℕ) (m : ℕ) (o : List ℕ) where
-  pub place-start : Placing f m o o 0
+  pub place_start : Placing f m o o 0
   unfolding upto
-  place-start = rw (sub-zero m) (start (map f (run 0 m)) o)
+  place_start = rw (sub-zero m) (start (map f (run 0 m)) o)
 
   module _ (out : List ℕ) (j : ℕ) (s : Placing f m o out j) where
-    pub place-turn : j < m → j < length out → Placing f m o (slice_set out j (f j)) (j + 1)
+    pub place_turn : j < m → j < length out → Placing f m o (slice_set out j (f j)) (j + 1)
     unfolding run
-    place-turn h l =
+    place_turn h l =
         let q : m - j ≡ suc (m - (j + 1)) = omega arith in
         let w = map f (upto m) in
         let k : Writing w o out j (f j ∷ map f (run (suc j) (m - (j + 1)))) = subst (λ (z : ℕ). Writing w o out j (map f (run j z))) q s in
@@ -29,8 +29,8 @@ module _ (f : ℕ → ℕ) (m : ℕ) (o : List ℕ) where
     unfolding run
     place_end h l =
         let q : m - j ≡ 0 = omega arith in
-        all-ends _ o out j l (subst (λ (z : ℕ). Writing (map f (upto m)) o out j (map f (run j z))) q s)
+        all_ends _ o out j l (subst (λ (z : ℕ). Writing (map f (upto m)) o out j (map f (run j z))) q s)
 
 -- the place itself
-pub own-places : (m : ℕ) → map (λ j. j) (upto m) ≡ upto m
-own-places m = map-id (upto m)
+pub own_places : (m : ℕ) → map (λ j. j) (upto m) ≡ upto m
+own_places m = map-id (upto m)

@@ -1,7 +1,7 @@
 // Pivots.
 
 ghost use Rattle.std.specs.Prelude.{◌≤◌, length};
-ghost use Rattle.definition.specs.Draws.{drawsBelow};
+ghost use Rattle.definition.specs.Draws.{draws_below};
 ghost use Rattle.draws.specs.Says.{Leaves};
 
 use super::step::{advance, drawn};
@@ -9,7 +9,7 @@ use super::step::{advance, drawn};
 // `many` draws below n: the state after them.
 pub fn fill_draws(state: u64, n: u32, many: usize, out: &mut [u32]) -> u64
     requires { many ≤ length out.old }
-    ensures { Leaves (drawsBelow n many state) out.old result out.new }
+    ensures { Leaves (draws_below n many state) out.old result out.new }
 {
     let mut s = state;
     let mut i = 0;

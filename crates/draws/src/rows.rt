@@ -3,7 +3,7 @@
 ghost use Rattle.std.specs.Prelude.{◌≡◌, ◌+◌, ◌-◌, ◌*◌, ◌<◌, ◌≤◌, min, length};
 ghost use Rattle.definition.specs.Lists.{upto};
 ghost use Rattle.definition.specs.Tables.{padded};
-ghost use Rattle.definition.specs.Draws.{rowIds, rows_from};
+ghost use Rattle.definition.specs.Draws.{row_ids, rows_from};
 ghost use Rattle.draws.specs.Says.{Leaves};
 
 use super::numbers::wrapped;
@@ -14,7 +14,7 @@ use table::pad_from;
 // The ids of opening row i of n above 1 entries, from the draw r, as many as there is room for: `step` is (r + j) mod (n-1).
 pub fn write_ids(n: u32, i: u32, r: u32, ids: &mut [u32])
     requires { (1 < n) × (n ≤ 65536) × (i < n) × (r < n - 1) }
-    ensures { ids.new ≡ rowIds n i r (upto (length ids.old)) }
+    ensures { ids.new ≡ row_ids n i r (upto (length ids.old)) }
 {
     let mut step = r;
     let mut j = 0;
@@ -28,7 +28,7 @@ pub fn write_ids(n: u32, i: u32, r: u32, ids: &mut [u32])
 // Opening row i: its ids, then padding.
 pub fn write_row(n: u32, i: u32, r: u32, row: &mut [u32])
     requires { (1 < n) × (n ≤ 65536) × (i < n) × (r < n - 1) }
-    ensures { row.new ≡ padded (length row.old) (rowIds n i r (upto (min (length row.old) (n - 1)))) }
+    ensures { row.new ≡ padded (length row.old) (row_ids n i r (upto (min (length row.old) (n - 1)))) }
 {
     let width = row.len();
     let many = least(width, (n - 1) as usize);

@@ -1,8 +1,8 @@
 // A group of seeds.
 
 ghost use Rattle.std.specs.Prelude.{◌≡◌, ◌<◌, ◌≤◌, [], ◌∷◌, length};
-ghost use Rattle.definition.specs.Lists.{isIn};
-ghost use Rattle.definition.specs.Draws.{firstFree, seedsFrom};
+ghost use Rattle.definition.specs.Lists.{is_in};
+ghost use Rattle.definition.specs.Draws.{first_free, seeds_from};
 ghost use Rattle.draws.specs.Says.{Leaves};
 
 use super::numbers::wrapped;
@@ -11,7 +11,7 @@ use checks_repeats::is_among;
 
 // Whether x is the start or in the group.
 pub fn is_taken(x: u32, start: u32, group: &[u32]) -> bool
-    ensures { result ≡ isIn x (start ∷ group.now) }
+    ensures { result ≡ is_in x (start ∷ group.now) }
 {
     if x == start {
         return true;
@@ -23,7 +23,7 @@ pub fn is_taken(x: u32, start: u32, group: &[u32]) -> bool
 // These are distinct, so that one of the first `group.len() + 2` is free, and the loop ends there at the latest: `left` is the definition's bound.
 pub fn first_free(n: u32, start: u32, group: &[u32], r: u32) -> u32
     requires { (0 < n) × (n ≤ 65536) × (r < n) }
-    ensures { result ≡ firstFree n (start ∷ group.now) n r }
+    ensures { result ≡ first_free n (start ∷ group.now) n r }
 {
     let mut x = r;
     let mut left = n;
@@ -40,7 +40,7 @@ pub fn first_free(n: u32, start: u32, group: &[u32], r: u32) -> u32
 // A group of `extra` seeds, from empty: the state after it.
 pub fn fill_seeds(state: u64, n: u32, start: u32, extra: usize, out: &mut [u32]) -> u64
     requires { (0 < n) × (n ≤ 65536) × (extra ≤ length out.old) }
-    ensures { Leaves (seedsFrom n start extra [] state) out.old result out.new }
+    ensures { Leaves (seeds_from n start extra [] state) out.old result out.new }
 {
     let mut s = state;
     let mut k = 0;

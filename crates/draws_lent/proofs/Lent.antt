@@ -36,8 +36,8 @@ use Rattle.draws.proofs.Stepped.TheLaws as F'
 use Rattle.definition.specs.contracts.Answer as An
 use Rattle.definition.proofs.Answer.TheLaws as An'
 
-abbrev at-state : ℕ → Generator
-at-state s = record { state = s }
+abbrev at_state : ℕ → Generator
+at_state s = record { state = s }
 
 -- a generator in machine values, and as a ghost variable has it
 abbrev spelled : Generator → List Val
@@ -46,8 +46,8 @@ spelled g = LL.vals G.the_type G'.the_laws g
 abbrev coded : Generator → Gv
 coded g = (G.the_row).coded.code g
 
-state-fits : (g : Generator) → Is G.the_row g (spelled g) → g.state < 2 ^ 64
-state-fits g is = (LL.owed G.the_type G'.the_laws g _ is).0.1
+state_fits : (g : Generator) → Is G.the_row g (spelled g) → g.state < 2 ^ 64
+state_fits g is = (LL.owed G.the_type G'.the_laws g _ is).0.1
 
 -- an answer in machine values
 abbrev answered : Answer → Val
@@ -59,7 +59,7 @@ Opened κ q x s =
     let b : ℕ = x.ptr.0 in
     let o : ℕ = x.ptr.1 in
     let halves : Fml = fsep (fobs x.ghost_name (coded x.now)) (fauth x.ghost_name (coded x.now)) in
-    fsep (cell_at full_share (G.the_row).mir (spelled (at-state s)) b o) (fsep (fobor κ q (Holds (mem G.the_row) b o x.name)) halves)
+    fsep (cell_at full_share (G.the_row).mir (spelled (at_state s)) b o) (fsep (fobor κ q (Holds (mem G.the_row) b o x.name)) halves)
 
 -- the code on both sides of the call: the generator is the first argument, and n takes the state, then what came back
 abbrev reading : ℕ → Body → Body
@@ -78,37 +78,37 @@ Points cs x τ b = Has cs 1 (holds τ b (vptr x.ptr.0 x.ptr.1))
 abbrev Ends : {M : Type 1} {𝓤 : Ura M} (𝓛 : Logic 𝓤) → SProp 𝓤 → Fml → MutBor Generator → Stepped → Fml → (Val → SProp 𝓤) → Type 1
 Ends {𝓤 = 𝓤} 𝓛 Ens Tokens x r Lasts Kf =
     let Answers : SProp 𝓤 = sem 𝓛 ((An.the_row).own_val r.answer (answered r.answer ∷ [])) in
-    let Lasting : SProp 𝓤 = sem 𝓛 (fsep (fres x.name (coded (at-state r.state))) Lasts) in
+    let Lasting : SProp 𝓤 = sem 𝓛 (fsep (fres x.name (coded (at_state r.state))) Lasts) in
     ent 𝓤 (sep 𝓤 Ens (sep 𝓤 (sem 𝓛 Tokens) (sep 𝓤 Answers Lasting))) (Kf (answered r.answer))
 
 module _ {M : Type 1} {𝓤 : Ura M} {𝓛 : Logic 𝓤} {K : Type 0} {E : Env 𝓤 𝓛.H} {C : Calls 𝓤 𝓛.H} {Λ : Loops 𝓤 𝓛.H}
     {cs : List Cell} {κ : Lft} {q : Share} {Tokens : Fml} where
   open 𝓛 use {H}
 
-  pub state-read : K → (x : MutBor Generator) {Owns : Fml} {Q : Post 𝓤 H} {P : SProp 𝓤} {n : ℕ} {τ : Ty} {b b₁ : ℕ} {rest : Body}
+  pub state_read : K → (x : MutBor Generator) {Owns : Fml} {Q : Post 𝓤 H} {P : SProp 𝓤} {n : ℕ} {τ : Ty} {b b₁ : ℕ} {rest : Body}
       → E ≡ env cs → Points cs x τ b → At cs n (ty_int w64) b₁
       → Step K 𝓛 (‵ Tokens ∷ ‵ (fsep (u64.own_val x.now.state (vint w64 x.now.state ∷ [])) Owns) ∷ ‵ (Opened κ q x x.now.state)
       ∷ locals (putc cs n (holds (ty_int w64) b₁ (vint w64 x.now.state))) ∷ [])
       (runs C Λ E rest Q)
       (‵ (fsep (flft κ q) Tokens) ∷ ‵ (fsep ((MutRef (named 0) κ G.the_row).own_val x (mut_vals x)) Owns) ∷ raw P ∷ locals cs ∷ [])
       (runs C Λ E (reading n rest) Q)
-  state-read t x e h h₁ = step (λ s. fsplit t $ move t (2 ∷ []) $ fsplit t $ fsplit3 t $ drop t $ move t (0 ∷ 1 ∷ 3 ∷ []) $
+  state_read t x e h h₁ = step (λ s. fsplit t $ move t (2 ∷ []) $ fsplit t $ fsplit3 t $ drop t $ move t (0 ∷ 1 ∷ 3 ∷ []) $
       opens t tt G.the_row {h = x.now} x.ref_ptr.0 x.ref_ptr.1 (λ vs.
       spelt t G.the_row (Is G.the_row) (shows 𝓛 G.the_row) spelled (LL.tells G.the_type G'.the_laws) full_share x.now vs x.ref_ptr.0 x.ref_ptr.1 $
       move t (1 ∷ []) $
       peeks t G.the_row (Is G.the_row) (shows 𝓛 G.the_row) x.now (spelled x.now) (λ was.
       sets t (refl, e) (of_opd t (load t (pointee t 1 (refl, e) h (fld t refl (stop t)))
-      (look_in t 1 (sub t 0 refl (whole t))))) h₁ (tt, record { fits = state-fits x.now was }) $
+      (look_in t 1 (sub t 0 refl (whole t))))) h₁ (tt, record { fits = state_fits x.now was }) $
       keep t (3 ∷ 4 ∷ 2 ∷ 1 ∷ 5 ∷ 6 ∷ 8 ∷ []) $ fjoin t $ move t (1 ∷ 0 ∷ []) $ fjoin t $ move t (1 ∷ 0 ∷ []) $ fjoin t $ move t (1 ∷ []) $
-      owned t u64 (Is u64) (uint_Makes 𝓛 w64) x.now.state _ (refl, state-fits x.now was) $ fjoin t $ move t (2 ∷ 0 ∷ 1 ∷ []) $ s)))
+      owned t u64 (Is u64) (uint_Makes 𝓛 w64) x.now.state _ (refl, state_fits x.now was) $ fjoin t $ move t (2 ∷ 0 ∷ 1 ∷ []) $ s)))
 
-  pub state-stored : K → (x : MutBor Generator) (s : ℕ) (r : Stepped) {w : Val} {Kf : Val → SProp 𝓤} {Ens : SProp 𝓤} {Lasts : Fml} {n : ℕ} {τ : Ty}
+  pub state_stored : K → (x : MutBor Generator) (s : ℕ) (r : Stepped) {w : Val} {Kf : Val → SProp 𝓤} {Ens : SProp 𝓤} {Lasts : Fml} {n : ℕ} {τ : Ty}
       {b b₀ b₁ : ℕ} → E ≡ env cs → Points cs x τ b₁ → At cs n F'.mir b → At cs 0 An'.mir b₀ → Apart n 1 × Apart n 0
       → Ends 𝓛 Ens (fsep (flft κ q) Tokens) x r Lasts Kf
       → Seq K 𝓛 (raw Ens ∷ ‵ ((F.the_row).own_val r (w ∷ [])) ∷ ‵ Tokens ∷ ‵ (fsep ftrue Lasts) ∷ ‵ (Opened κ q x s) ∷ locals cs ∷ [])
       (lands C Λ E (place n []) w (storing n) (at_ret E Kf))
-  state-stored t x s r {n = n} {b = b} {b₀ = b₀} e h₁ hn h₀ far fin =
-      let g : Generator = at-state r.state in
+  state_stored t x s r {n = n} {b = b} {b₀ = b₀} e h₁ hn h₀ far fin =
+      let g : Generator = at_state r.state in
       let f : Val = LL.val F.the_type F'.the_laws r in
       let a : Val = answered r.answer in
       let cs₁ : List Cell = putc cs n (holds F'.mir b f) in

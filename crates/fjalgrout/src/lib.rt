@@ -5,7 +5,7 @@
 
 ghost use Rattle.std.specs.Prelude.{◌≡◌};
 ghost use Rattle.definition.specs.Defaults.{defaults};
-ghost use Rattle.definition.specs.Outcome.{distanceOut, medoidOut, fitOut, BatchMeets, OpenMeets, CloseMeets, BuildMeets};
+ghost use Rattle.definition.specs.Outcome.{distance_out, medoid_out, fit_out, BatchMeets, OpenMeets, CloseMeets, BuildMeets};
 ghost use Rattle.definition.specs.Outcome.{SearchMeets, LookupMeets, RecordsMeets, ExhaustiveMeets, ReportMeets};
 ghost use Rattle.draws.specs.Says.{DrawSays, RowsSays, SeedsSays, OrderSays, PivotsSays};
 
@@ -23,7 +23,7 @@ pub extern "C" fn fjalgrout_defaults() -> Params
 // Part 1. The distance of two vectors. Numbers 1, 11.
 #[unsafe(no_mangle)]
 pub extern "C" fn fjalgrout_distance(a: &[u8], b: &[u8]) -> Answer
-    ensures { result ≡ distanceOut (record { first = a.now; second = b.now }) }
+    ensures { result ≡ distance_out (record { first = a.now; second = b.now }) }
 {
     metric::distance(a, b)
 }
@@ -31,7 +31,7 @@ pub extern "C" fn fjalgrout_distance(a: &[u8], b: &[u8]) -> Answer
 // Part 8. The start. Numbers 1, 2, 12.
 #[unsafe(no_mangle)]
 pub extern "C" fn fjalgrout_medoid(n: usize, dim: usize, vectors: &[u8], pivots: &[u32]) -> Answer
-    ensures { result ≡ medoidOut (record { n = n; dim = dim; vectors = vectors.now; pivots = pivots.now }) }
+    ensures { result ≡ medoid_out (record { n = n; dim = dim; vectors = vectors.now; pivots = pivots.now }) }
 {
     medoid::medoid(n, dim, vectors, pivots)
 }
@@ -173,7 +173,7 @@ pub extern "C" fn fjalgrout_lookup(
 // Part 9. Whether a table may be searched. Numbers 2 (the limits of n), 3, 8.
 #[unsafe(no_mangle)]
 pub extern "C" fn fjalgrout_fit(n: usize, degree: usize, table: &[u32]) -> Answer
-    ensures { result ≡ fitOut (record { n = n; degree = degree; table = table.now }) }
+    ensures { result ≡ fit_out (record { n = n; degree = degree; table = table.now }) }
 {
     search::fit(n, degree, table)
 }

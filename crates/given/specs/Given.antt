@@ -32,16 +32,16 @@ degree-slack degree width e h = (omega arith, omega arith)
 -- what close keeps to
 pub record Limits (g : Given) : Type 0 where
   pub nodes : g.n ≤ 65536
-  pub dim-few : g.dim ≤ 256
-  pub vectors-are : length g.vectors ≡ g.n * g.dim
-  pub degree-few : g.params.degree ≤ 64
+  pub dim_few : g.dim ≤ 256
+  pub vectors_are : length g.vectors ≡ g.n * g.dim
+  pub degree_few : g.params.degree ≤ 64
   pub width_is : g.width ≡ slack g.params.degree
 
 -- what a batch and a whole build keep to, whose walks go by the beam
 pub record WalkLimits (g : Given) : Type 0 where
   pub limits : Limits g
-  pub beam-few : g.params.beam ≤ 256
-  pub alpha-low : above g.params.alpha four ≡ false
+  pub beam_few : g.params.beam ≤ 256
+  pub alpha_low : above g.params.alpha four ≡ false
 
 -- a wide table: each of its words is padding or an entry
 pub record Wide (g : Given) (wide : List ℕ) : Type 0 where

@@ -6,16 +6,16 @@ use mathlib.Core.List.{List}
 use Prim.Native.Nat.{ℕ, suc, ◌+◌, ◌-◌, ◌≤◌, ◌<◌}
 use native.Mathlib.Omega.{arith}
 use lib.ListN.{length}
-use Rattle.definition.specs.Greedy.{State, visitedIds, expand, popped, step, stops, steps}
-use Rattle.laws.specs.Parts.{Within, within_none, within-trans}
-use Rattle.theory.specs.search.Steps.{expand-expanded, step-expanded}
-use Rattle.marks.specs.Visits.{visited-most}
+use Rattle.definition.specs.Greedy.{State, visited_ids, expand, popped, step, stops, steps}
+use Rattle.laws.specs.Parts.{Within, within_none, within_trans}
+use Rattle.theory.specs.search.Steps.{expand_expanded, step_expanded}
+use Rattle.marks.specs.Visits.{visited_most}
 use Rattle.kept.specs.declared.Popped.{Popped}
 use Rattle.kept.specs.Says.{standing as standing-kept, works, Pops}
 use Rattle.greedy.specs.declared.Plan.{Plan}
 use Rattle.greedy.specs.declared.Walked.{Walked}
-use Rattle.greedy.specs.Scratch.{noted, Standing, standing, walkEnd, Ready, Room, Is, Live, Moves, Leaves, Ends}
-use Rattle.greedy.specs.Cases.{steps-none, steps-stop, steps-go, step_is}
+use Rattle.greedy.specs.Scratch.{noted, Standing, standing, walk_end, Ready, Room, Is, Live, Moves, Leaves, Ends}
+use Rattle.greedy.specs.Cases.{steps-none, steps-stop, steps_go, step_is}
 
 -- `left` steps from the state where the scratch is lead where the whole walk from st leads
 pub record Reached (p : Plan) (epoch : ℕ) (dist : ℕ → ℕ) (rows : ℕ → List ℕ) (st : State) (s : Standing) (left : ℕ) : Type 0 where
@@ -26,40 +26,40 @@ pub record Reached (p : Plan) (epoch : ℕ) (dist : ℕ → ℕ) (rows : ℕ →
 
 -- another walk may follow, and no entry was visited twice
 ready-room : {p : Plan} {epoch : ℕ} {s : Standing} → Ready p epoch s → Room p epoch s.words
-ready-room r = record { space = r.space; marks = r.marked.marks-le }
+ready-room r = record { space = r.space; marks = r.marked.marks_le }
 
 ready-few : {p : Plan} {epoch : ℕ} {s : Standing} → Ready p epoch s → s.counts.visited ≤ p.n
-ready-few r = omega (arith, visited-most r.marked, r.visited-is)
+ready-few r = omega (arith, visited_most r.marked, r.visited_is)
 
 -- a state that the scratch holds is what a walk leaves, if it ends there
-is-leaves : {p : Plan} {epoch : ℕ} {s : Standing} {st : State} → Is p epoch s st → (expanded : ℕ) → length st.expanded ≡ expanded
+is_leaves : {p : Plan} {epoch : ℕ} {s : Standing} {st : State} → Is p epoch s st → (expanded : ℕ) → length st.expanded ≡ expanded
     → Leaves p s.words s.keys (record { epoch = epoch; visited = s.counts.visited; expanded = expanded; work = s.counts.work.len }) st
-is-leaves {s = s} is expanded e =
-    record { visited-is = is.count; expanded-is = e; logged = is.logged; work = s.counts.work; len_is = refl; working = is.working }
+is_leaves {s = s} is expanded e =
+    record { visited_is = is.count; expanded_is = e; logged = is.logged; work = s.counts.work; len_is = refl; working = is.working }
 
 -- ---- with beam 0 the start is all that is expanded; what the scratch holds does not tell it
 
-noted-is : {p : Plan} {epoch : ℕ} {s : Standing} {st : State} (id : ℕ) → Is p epoch s st → Is p epoch s (noted id st)
-unfolding noted visitedIds
-noted-is id is = record { seen = is.seen; count = is.count; logged = is.logged; working = is.working }
+noted_is : {p : Plan} {epoch : ℕ} {s : Standing} {st : State} (id : ℕ) → Is p epoch s st → Is p epoch s (noted id st)
+unfolding noted visited_ids
+noted_is id is = record { seen = is.seen; count = is.count; logged = is.logged; working = is.working }
 
 noted_one : (id : ℕ) (st : State) → length st.expanded ≡ 0 → length (noted id st).expanded ≡ 1
 unfolding noted
 noted_one id st none = ap suc none
 
-pub start-ends : {p : Plan} {epoch : ℕ} {s₀ s : Standing} (dist : ℕ → ℕ) (row : List ℕ) (start : ℕ)
+pub start_ends : {p : Plan} {epoch : ℕ} {s₀ s : Standing} (dist : ℕ → ℕ) (row : List ℕ) (start : ℕ)
     → Moves p epoch s₀ s (λ st. expand dist p.beam st row)
     → Ends p epoch s₀ s.words s.keys (record { epoch = epoch; visited = s.counts.visited; expanded = 1; work = s.counts.work.len })
     (λ st. expand dist p.beam (noted start st) row)
-start-ends {p} dist row start m =
+start_ends {p} dist row start m =
     record {
-      epoch-is = refl;
+      epoch_is = refl;
       room = ready-room m.ready;
-      visited-le = ready-few m.ready;
+      visited_le = ready-few m.ready;
       leaves = λ st is none.
-          let one = ap length (expand-expanded dist p.beam row (noted start st)) ∙ noted_one start st none in
-          is-leaves (m.moves (noted start st) (noted-is start is)) 1 one;
-      words-kept = m.words-kept;
+          let one = ap length (expand_expanded dist p.beam row (noted start st)) ∙ noted_one start st none in
+          is_leaves (m.moves (noted start st) (noted_is start is)) 1 one;
+      words_kept = m.words_kept;
     }
 
 -- ---- with a beam
@@ -69,7 +69,7 @@ pub record Run (p : Plan) (epoch : ℕ) (dist : ℕ → ℕ) (rows : ℕ → Lis
   pub live : Live p epoch after
   pub fuel : left ≤ p.n
   pub runs : (st : State) → Is p epoch before st → Reached p epoch dist rows st after left
-  pub words-kept : Within 0 (walkEnd p) before.words after.words
+  pub words_kept : Within 0 (walk_end p) before.words after.words
 
 pub run-start : {p : Plan} {epoch : ℕ} {s : Standing} (dist : ℕ → ℕ) (rows : ℕ → List ℕ) → Ready p epoch s → Live p epoch s
     → Run p epoch dist rows s s p.n
@@ -79,7 +79,7 @@ run-start {p} {epoch} {s} dist rows r l =
       live = l;
       fuel = omega arith;
       runs = λ st is. record { state = st; is = is; same = refl; turns = refl };
-      words-kept = within_none 0 (walkEnd p) s.words;
+      words_kept = within_none 0 (walk_end p) s.words;
     }
 
 module _ {p : Plan} {epoch : ℕ} {dist : ℕ → ℕ} {rows : ℕ → List ℕ} {s₀ s : Standing} {left : ℕ} (run : Run p epoch dist rows s₀ s left) where
@@ -96,29 +96,29 @@ module _ {p : Plan} {epoch : ℕ} {dist : ℕ → ℕ} {rows : ℕ → List ℕ}
   ends keys e still =
       subst (λ (l : List ℕ). Ends p epoch s₀ s.words l gives whole) (sym e)
       (record {
-        epoch-is = refl;
+        epoch_is = refl;
         room = ready-room run.ready;
-        visited-le = ready-few run.ready;
+        visited_le = ready-few run.ready;
         leaves = λ st is₀ none.
             let q = run.runs st is₀ in
             subst (Leaves p s.words s.keys gives) (sym (q.same ∙ still q.state q.is))
-            (is-leaves q.is (p.n - left) (omega (arith, q.turns, none)));
-        words-kept = run.words-kept;
+            (is_leaves q.is (p.n - left) (omega (arith, q.turns, none)));
+        words_kept = run.words_kept;
       })
 
   -- the fuel is spent
-  pub run-spent : left ≡ 0 → Ends p epoch s₀ s.words s.keys gives whole
-  run-spent e = ends s.keys refl (λ st is. ap (λ (k : ℕ). steps dist rows p.beam k st) e ∙ steps-none dist rows p.beam st)
+  pub run_spent : left ≡ 0 → Ends p epoch s₀ s.words s.keys gives whole
+  run_spent e = ends s.keys refl (λ st is. ap (λ (k : ℕ). steps dist rows p.beam k st) e ∙ steps-none dist rows p.beam st)
 
   module _ {keys₁ : List ℕ} {r : Popped} (pop : Pops p.beam (standing-kept s.keys s.counts.work) keys₁ r) where
-    stops-is : (st : State) → Is p epoch s st → (t : Bool) → r.found ≡ t → stops p.beam st ≡ not t
-    stops-is st is t e = sym (not-not (stops p.beam st)) ∙ ap not (sym (pop.found-is p.n st is.working) ∙ e)
+    stops_is : (st : State) → Is p epoch s st → (t : Bool) → r.found ≡ t → stops p.beam st ≡ not t
+    stops_is st is t e = sym (not-not (stops p.beam st)) ∙ ap not (sym (pop.found_is p.n st is.working) ∙ e)
 
     -- nothing is left to walk
-    pub run-halt : not r.found ≡ true → Ends p epoch s₀ s.words keys₁ gives whole
-    run-halt none =
+    pub run_halt : not r.found ≡ true → Ends p epoch s₀ s.words keys₁ gives whole
+    run_halt none =
         let e : r.found ≡ false = sym (not-not r.found) ∙ ap not none in
-        ends keys₁ (pop.same e) (λ st is. steps-stop dist rows p.beam left st (stops-is st is false e))
+        ends keys₁ (pop.same e) (λ st is. steps-stop dist rows p.beam left st (stops_is st is false e))
 
     -- the best is popped
     module _ (some : not r.found ≡ false) where
@@ -128,45 +128,45 @@ module _ {p : Plan} {epoch : ℕ} {dist : ℕ → ℕ} {rows : ℕ → List ℕ}
       abbrev s₁ : Standing
       s₁ = standing s.words keys₁ (record { visited = s.counts.visited; work = works s.counts.work.len r.done s.counts.work.bound })
 
-      pub pop-ready : Ready p epoch s₁
-      pop-ready = record { space = run.ready.space; marked = run.ready.marked; visited-is = run.ready.visited-is }
+      pub pop_ready : Ready p epoch s₁
+      pop_ready = record { space = run.ready.space; marked = run.ready.marked; visited_is = run.ready.visited_is }
 
-      popped-is : (st : State) → Is p epoch s st → Is p epoch s₁ (popped st)
-      unfolding popped visitedIds
-      popped-is st is = record { seen = is.seen; count = is.count; logged = is.logged; working = pop.working found p.n st is.working }
+      popped_is : (st : State) → Is p epoch s st → Is p epoch s₁ (popped st)
+      unfolding popped visited_ids
+      popped_is st is = record { seen = is.seen; count = is.count; logged = is.logged; working = pop.working found p.n st is.working }
 
-      pub pop-live : Live p epoch s₁
-      pop-live = record { state = popped run.live.state; is = popped-is run.live.state run.live.is }
+      pub pop_live : Live p epoch s₁
+      pop_live = record { state = popped run.live.state; is = popped_is run.live.state run.live.is }
 
-      pub pop-id : r.id < p.n
-      pop-id = (pop.id-is found p.n run.live.state run.live.is.working).1
+      pub pop_id : r.id < p.n
+      pop_id = (pop.id_is found p.n run.live.state run.live.is.working).1
 
       -- and its row was walked
       module _ (fuel : 0 < left) {s₂ : Standing} (m : Moves p epoch s₁ s₂ (λ st. expand dist p.beam st (rows r.id))) where
         abbrev stepped : State → State
         stepped st = step dist rows p.beam st
 
-        stepped-is : (st : State) → Is p epoch s st → Is p epoch s₂ (stepped st)
-        stepped-is st is =
-            subst (Is p epoch s₂) (sym (step_is dist rows p.beam st r.id (pop.id-is found p.n st is.working).0))
-            (m.moves (popped st) (popped-is st is))
+        stepped_is : (st : State) → Is p epoch s st → Is p epoch s₂ (stepped st)
+        stepped_is st is =
+            subst (Is p epoch s₂) (sym (step_is dist rows p.beam st r.id (pop.id_is found p.n st is.working).0))
+            (m.moves (popped st) (popped_is st is))
 
         pub run_step : Run p epoch dist rows s₀ s₂ (left - 1)
         run_step =
             record {
               ready = m.ready;
-              live = record { state = stepped run.live.state; is = stepped-is run.live.state run.live.is };
+              live = record { state = stepped run.live.state; is = stepped_is run.live.state run.live.is };
               fuel = omega (arith, run.fuel);
               runs = λ st is₀.
                   let q = run.runs st is₀ in
                   let k : left ≡ suc (left - 1) = omega arith in
                   record {
                     state = stepped q.state;
-                    is = stepped-is q.state q.is;
+                    is = stepped_is q.state q.is;
                     same =
                         q.same ∙ ap (λ (j : ℕ). steps dist rows p.beam j q.state) k
-                        ∙ steps-go dist rows p.beam (left - 1) q.state (stops-is q.state q.is true found);
-                    turns = omega (arith, q.turns, step-expanded dist p.beam rows q.state);
+                        ∙ steps_go dist rows p.beam (left - 1) q.state (stops_is q.state q.is true found);
+                    turns = omega (arith, q.turns, step_expanded dist p.beam rows q.state);
                   };
-              words-kept = within-trans 0 (walkEnd p) s₀.words s.words s₂.words run.words-kept m.words-kept;
+              words_kept = within_trans 0 (walk_end p) s₀.words s.words s₂.words run.words_kept m.words_kept;
             }

@@ -3,13 +3,13 @@
 // and visited lie.
 
 ghost use Rattle.std.specs.Prelude.{◌≡◌, ◌+◌, ◌≤◌, ◌<◌, length, replicate};
-ghost use Rattle.definition.specs.Metric.{fromQuery};
+ghost use Rattle.definition.specs.Metric.{from_query};
 ghost use Rattle.definition.specs.Tables.{row, cleaned};
 ghost use Rattle.definition.specs.Greedy.{expand, steps};
-ghost use Rattle.theory.specs.build.Walks.{epochEnd};
-ghost use Rattle.scratch.specs.Layout.{widest, poolAt};
+ghost use Rattle.theory.specs.build.Walks.{epoch_end};
+ghost use Rattle.scratch.specs.Layout.{widest, pool_at};
 ghost use Rattle.beam.specs.Keys.{none};
-ghost use Rattle.greedy.specs.Scratch.{Measures, Ground, fromStart, walk_of, standing, Ready, Live, Room, Rooms, Keeps, Moves, Ends, Walks};
+ghost use Rattle.greedy.specs.Scratch.{Measures, Ground, from_start, walk_of, standing, Ready, Live, Room, Rooms, Keeps, Moves, Ends, Walks};
 
 use kept::Work;
 
@@ -41,7 +41,7 @@ pub struct Walked {
 
 // New entries with their distances, behind the v visited.
 fn keep_each(words: &mut [u32], n: usize, v: usize, ids: &[u32], dists: &[u32])
-    requires { (n ≤ 65536) × (poolAt n ≤ length words.old) × (v + length ids.now ≤ n) × (length ids.now ≡ length dists.now) }
+    requires { (n ≤ 65536) × (pool_at n ≤ length words.old) × (v + length ids.now ≤ n) × (length ids.now ≡ length dists.now) }
     ensures { Keeps n v ids.now dists.now words.old words.new }
 {
     let ids_at = scratch::visited_at(n) + v;
@@ -99,7 +99,7 @@ fn expand(
     requires measures { Measures p.n p.dim vectors.now query.now }
     requires rooms { Rooms row.now fresh.old apart.old }
     ensures { Moves p epoch (standing words.old keys.old c) (standing words.new keys.new result)
-        (λ st. expand (fromQuery p.dim vectors.now query.now) p.beam st (cleaned p.n row.now)) }
+        (λ st. expand (from_query p.dim vectors.now query.now) p.beam st (cleaned p.n row.now)) }
 {
     let n = p.n;
     let count = marks::gather(words, n as u32, epoch, row, fresh);
@@ -138,7 +138,7 @@ fn step(
     requires ground { Ground p vectors.now query.now table.now }
     requires id_lt_n { (id < p.n) × (length fresh.old ≡ widest) × (length apart.old ≡ widest) }
     ensures { Moves p epoch (standing words.old keys.old c) (standing words.new keys.new result)
-        (λ st. expand (fromQuery p.dim vectors.now query.now) p.beam st
+        (λ st. expand (from_query p.dim vectors.now query.now) p.beam st
         (row p.width (cleaned p.n table.now) id)) }
 {
     let width = p.width;
@@ -177,7 +177,7 @@ fn walk(
     requires ground { Ground p vectors.now query.now table.now }
     requires fresh_len { (length fresh.old ≡ widest) × (length apart.old ≡ widest) }
     ensures { Ends p epoch (standing words.old keys.old c) words.new keys.new result
-        (λ st. steps (fromQuery p.dim vectors.now query.now)
+        (λ st. steps (from_query p.dim vectors.now query.now)
         (row p.width (cleaned p.n table.now)) p.beam p.n st) }
 {
     let mut s = c;
@@ -228,7 +228,7 @@ fn from_start(
     requires ground { Ground p vectors.now query.now table.now }
     requires start_lt_n { (start < p.n) × (length fresh.old ≡ widest) × (length apart.old ≡ widest) }
     ensures { Ends p epoch (standing words.old keys.old c) words.new keys.new result
-        (fromStart p (fromQuery p.dim vectors.now query.now) table.now start) }
+        (from_start p (from_query p.dim vectors.now query.now) table.now start) }
 {
     if p.beam == 0 {
         let s = step(
@@ -257,12 +257,12 @@ pub fn greedy(
     epoch: u32,
     start: u32,
 ) -> Walked
-    requires epoch_bound { (epoch + 1 < epochEnd) × Room p epoch words.old }
+    requires epoch_bound { (epoch + 1 < epoch_end) × Room p epoch words.old }
     requires keys_value { keys.old ≡ replicate 256 none }
     requires ground { Ground p vectors.now query.now table.now }
     requires start_lt_n { start < p.n }
     ensures { Walks p epoch words.old words.new keys.new result
-        (walk_of p (fromQuery p.dim vectors.now query.now) table.now start) }
+        (walk_of p (from_query p.dim vectors.now query.now) table.now start) }
 {
     let mut fresh = [0u32; scratch::WIDEST];
     let mut apart = [0u32; scratch::WIDEST];

@@ -9,15 +9,15 @@ use borrow.Author.Tests.{ltb-true, ltb-false, lt-ltb, le-ltb}
 use lib.Dec.{ltb}
 use lib.ListN.{length, get_or, take, drop}
 use Rattle.definition.specs.Lists.{place}
-use Rattle.definition.specs.Beam.{Item, nobody, nearer, worse, insert, insertCapped, worst}
+use Rattle.definition.specs.Beam.{Item, nobody, nearer, worse, insert, insert_capped, worst}
 use Rattle.laws.specs.Truth.{either}
-use Rattle.laws.specs.Sorting.{behind-through}
-use Rattle.laws.specs.Items.{nearer-order, not-nearer, strictly-nearer}
+use Rattle.laws.specs.Sorting.{behind_through}
+use Rattle.laws.specs.Items.{nearer_order, not_nearer, strictly_nearer}
 use Rattle.laws.specs.All.{All, all_append, all_weaker}
 use Rattle.laws.specs.Descending.{Desc, all_insert}
-use Rattle.laws.specs.Inserts.{insert-behind, length-insert, capped-room, capped-nearer}
+use Rattle.laws.specs.Inserts.{insert-behind, length-insert, capped_room, capped_nearer}
 use Rattle.kept.specs.Kept.{Kept, key_of, items, opens, opening, Closed, Inside, Falling, Beyond}
-use Rattle.kept.specs.Keyed.{open-nearer, length-items}
+use Rattle.kept.specs.Keyed.{open_nearer, length-items}
 
 -- ---- `insert` into the front, and past the front
 -- x is nearer than none of them
@@ -34,11 +34,11 @@ behind-rest x (r ∷ rest) l a = insert-behind x r (rest ++ l) a.0 ∙ ap (λ (z
 -- ---- the open ones
 -- an item where it is open
 pub own : Kept → List Item
-own k = cond k.isOpen (k.of ∷ []) []
+own k = cond k.is_open (k.of ∷ []) []
 
 pub opens-first : (k : Kept) (ks : List Kept) → opens (k ∷ ks) ≡ own k ++ opens ks
 unfolding opens own
-opens-first k ks = go k.isOpen
+opens-first k ks = go k.is_open
   where
     go : (t : Bool) → cond t (k.of ∷ opens ks) (opens ks) ≡ cond t (k.of ∷ []) [] ++ opens ks
     go true = refl
@@ -46,17 +46,17 @@ opens-first k ks = go k.isOpen
 
 all_own : (P : Item → Type 0) (k : Kept) → P k.of → All P (own k)
 unfolding own
-all_own P k p = either (All P) k.isOpen (p, tt) tt
+all_own P k p = either (All P) k.is_open (p, tt) tt
 
-pub opens-closed : (ks : List Kept) → Closed ks → opens ks ≡ []
+pub opens_closed : (ks : List Kept) → Closed ks → opens ks ≡ []
 unfolding opens
-opens-closed [] c = refl
-opens-closed (k ∷ ks) c = rw c.0 (opens-closed ks c.1)
+opens_closed [] c = refl
+opens_closed (k ∷ ks) c = rw c.0 (opens_closed ks c.1)
 
 all-opens : (P : Item → Type 0) (ks : List Kept) → All P (items ks) → All P (opens ks)
 unfolding opens
 all-opens P [] a = tt
-all-opens P (k ∷ ks) a = either (All P) k.isOpen (a.0, all-opens P ks a.1) (all-opens P ks a.1)
+all-opens P (k ∷ ks) a = either (All P) k.is_open (a.0, all-opens P ks a.1) (all-opens P ks a.1)
 
 -- ---- an item that is put in, open
 pub put : Item → List Kept → List Kept
@@ -80,7 +80,7 @@ put-opens x (k ∷ ks) d = go (nearer x k.of) refl (put-opens x ks d.1)
   where
     later : nearer x k.of ≡ false → All (λ (z : Item). nearer x z ≡ false) (items ks)
     later e =
-        all_weaker (λ (z : Item). nearer k.of z ≡ false) (λ (z : Item). nearer x z ≡ false) (λ z g. behind-through nearer-order x k.of z e g) (items ks)
+        all_weaker (λ (z : Item). nearer k.of z ≡ false) (λ (z : Item). nearer x z ≡ false) (λ z g. behind_through nearer_order x k.of z e g) (items ks)
         d.0
 
     go : (t : Bool) → nearer x k.of ≡ t → opens (put x ks) ≡ insert x (opens ks)
@@ -108,10 +108,10 @@ unfolding put
 all-put P x [] p a = (p, tt)
 all-put P x (k ∷ ks) p a = either (All P) (nearer x k.of) (a.0, all-put P x ks p a.1) (p, a)
 
-pub falling-put : (n : ℕ) (x : Item) (ks : List Kept) → n ≤ 65536 → x.id < 65536 → All (Inside n) ks → Falling ks → Falling (put x ks)
+pub falling_put : (n : ℕ) (x : Item) (ks : List Kept) → n ≤ 65536 → x.id < 65536 → All (Inside n) ks → Falling ks → Falling (put x ks)
 unfolding put
-falling-put n x [] m h a f = (tt, tt)
-falling-put n x (k ∷ ks) m h a f = go (nearer x k.of) (open-nearer x k h (omega arith)) (falling-put n x ks m h a.1 f.1)
+falling_put n x [] m h a f = (tt, tt)
+falling_put n x (k ∷ ks) m h a f = go (nearer x k.of) (open_nearer x k h (omega arith)) (falling_put n x ks m h a.1 f.1)
   where
     go : (t : Bool) → ltb (key_of (opening x)) (key_of k) ≡ t → Falling (put x ks) → Falling (cond t (k ∷ put x ks) (opening x ∷ k ∷ ks))
     go true e r = let l = ltb-true (key_of (opening x)) (key_of k) e in (all-put (λ (z : Kept). key_of z ≤ key_of k) x ks (omega arith) f.0, r)
@@ -122,8 +122,8 @@ falling-put n x (k ∷ ks) m h a f = go (nearer x k.of) (open-nearer x k h (omeg
 -- ---- an item enters work and frontier, and `rest` is what the frontier has besides
 pub record Entered (beam : ℕ) (x : Item) (ks : List Kept) (frontier work : List Item) : Type 0 where
   pub rest : List Item
-  pub work-is : insertCapped beam x work ≡ items (put x ks)
-  pub frontier-is : insert x frontier ≡ rest ++ opens (put x ks)
+  pub work_is : insert_capped beam x work ≡ items (put x ks)
+  pub frontier_is : insert x frontier ≡ rest ++ opens (put x ks)
   pub beyond : All (Beyond beam (items (put x ks))) rest
 
 -- work below beam: nothing was cut from it, so all of the frontier is open
@@ -131,13 +131,13 @@ none-beyond : (beam : ℕ) (work rest : List Item) → length work < beam → Al
 none-beyond beam work [] h far = refl
 none-beyond beam work (r ∷ rest) h far = absurd (omega (arith, far.0.1.0))
 
-pub entered-room : (beam : ℕ) (x : Item) (ks : List Kept) (rest frontier : List Item) → Desc (items ks) → frontier ≡ rest ++ opens ks
+pub entered_room : (beam : ℕ) (x : Item) (ks : List Kept) (rest frontier : List Item) → Desc (items ks) → frontier ≡ rest ++ opens ks
     → All (Beyond beam (items ks)) rest → length ks < beam → Entered beam x ks frontier (items ks)
-entered-room beam x ks rest frontier d parts far h =
+entered_room beam x ks rest frontier d parts far h =
     record {
       rest = [];
-      work-is = capped-room beam x (items ks) fits ∙ sym (put-items x ks);
-      frontier-is =
+      work_is = capped_room beam x (items ks) fits ∙ sym (put-items x ks);
+      frontier_is =
           ap (insert x) (parts ∙ ap (λ (l : List Item). l ++ opens ks) (none-beyond beam (items ks) rest fits far)) ∙ sym (put-opens x ks d);
       beyond = tt;
     }
@@ -146,17 +146,17 @@ entered-room beam x ks rest frontier d parts far h =
     fits = omega (arith, length-items ks)
 
 -- what is not nearer is no farther
-behind-dist : (y z : Item) → nearer y z ≡ false → z.dist ≤ y.dist
-behind-dist y z e = go (not-nearer y z e)
+behind_dist : (y z : Item) → nearer y z ≡ false → z.dist ≤ y.dist
+behind_dist y z e = go (not_nearer y z e)
   where
     go : (z.dist < y.dist) ⊎ ((y.dist ≡ z.dist) × (z.id ≤ y.id)) → z.dist ≤ y.dist
     go (inl h) = omega arith
     go (inr h) = omega arith
 
-worst-most : (m : ℕ) (l : List Item) → All (λ (z : Item). z.dist ≤ m) l → (worst l).dist ≤ m
+worst_most : (m : ℕ) (l : List Item) → All (λ (z : Item). z.dist ≤ m) l → (worst l).dist ≤ m
 unfolding worst
-worst-most m [] a = zero-le
-worst-most m (w ∷ ws) a = a.0
+worst_most m [] a = zero-le
+worst_most m (w ∷ ws) a = a.0
 
 -- full work: its worst k leaves, and if it is open it stands in the rest of the frontier
 module _ (beam : ℕ) (x : Item) (k : Kept) (ks : List Kept) (rest frontier : List Item) (d : Desc (items (k ∷ ks))) (size : length (k ∷ ks) ≡ beam)
@@ -169,29 +169,29 @@ module _ (beam : ℕ) (x : Item) (k : Kept) (ks : List Kept) (rest frontier : Li
       (all_weaker (Beyond beam (items (k ∷ ks))) (λ (r : Item). k.of.dist ≤ r.dist) (λ r b. ltb-false r.dist k.of.dist b.1.1) rest far)
       (all_own (λ (r : Item). k.of.dist ≤ r.dist) k (omega arith))
 
-  new-length : length (items (put x ks)) ≡ beam
-  new-length = length-items (put x ks) ∙ length-put x ks ∙ size
+  new_length : length (items (put x ks)) ≡ beam
+  new_length = length-items (put x ks) ∙ length-put x ks ∙ size
 
-  new-worst : (worst (items (put x ks))).dist ≤ k.of.dist
-  new-worst =
-      worst-most k.of.dist (items (put x ks)) (subst (All (λ (z : Item). z.dist ≤ k.of.dist)) (sym (put-items x ks))
+  new_worst : (worst (items (put x ks))).dist ≤ k.of.dist
+  new_worst =
+      worst_most k.of.dist (items (put x ks)) (subst (All (λ (z : Item). z.dist ≤ k.of.dist)) (sym (put-items x ks))
       (all_insert (λ (z : Item). z.dist ≤ k.of.dist) x (items ks) (omega arith)
-      (all_weaker (λ (z : Item). nearer k.of z ≡ false) (λ (z : Item). z.dist ≤ k.of.dist) (behind-dist k.of) (items ks) d.0)))
+      (all_weaker (λ (z : Item). nearer k.of z ≡ false) (λ (z : Item). z.dist ≤ k.of.dist) (behind_dist k.of) (items ks) d.0)))
 
-  pub entered-full : Entered beam x ks frontier (items (k ∷ ks))
-  entered-full =
+  pub entered_full : Entered beam x ks frontier (items (k ∷ ks))
+  entered_full =
       record {
         rest = rest ++ own k;
-        work-is =
-            capped-nearer beam x k.of (items ks) (omega arith) (omega (arith, length-items ks)) (lt-ltb x.dist k.of.dist h) ∙ sym (put-items x ks);
-        frontier-is =
+        work_is =
+            capped_nearer beam x k.of (items ks) (omega arith) (omega (arith, length-items ks)) (lt-ltb x.dist k.of.dist h) ∙ sym (put-items x ks);
+        frontier_is =
             ap (insert x) (parts ∙ ap (λ (l : List Item). rest ++ l) (opens-first k ks) ∙ sym (append_assoc rest (own k) (opens ks)))
             ∙ behind-rest x (rest ++ own k) (opens ks)
-            (all_weaker (λ (r : Item). k.of.dist ≤ r.dist) (λ (r : Item). nearer x r ≡ true) (λ r g. strictly-nearer x r (omega arith)) (rest ++ own k)
+            (all_weaker (λ (r : Item). k.of.dist ≤ r.dist) (λ (r : Item). nearer x r ≡ true) (λ r g. strictly_nearer x r (omega arith)) (rest ++ own k)
             farther)
             ∙ ap (λ (l : List Item). (rest ++ own k) ++ l) (sym (put-opens x ks d.1));
         beyond =
             all_weaker (λ (r : Item). k.of.dist ≤ r.dist) (Beyond beam (items (put x ks)))
-            (λ r g. (omega (arith, new-length), (omega (arith, new-length), le-ltb r.dist (worst (items (put x ks))).dist (omega (arith, new-worst)))))
+            (λ r g. (omega (arith, new_length), (omega (arith, new_length), le-ltb r.dist (worst (items (put x ks))).dist (omega (arith, new_worst)))))
             (rest ++ own k) farther;
       }

@@ -8,30 +8,30 @@ use lib.ListN.{length, get_or, take}
 use lib.Seq.{length-take-le, take-suc, take-length, take-take, get_or-take}
 use Rattle.definition.specs.Beam.{Item, item}
 use Rattle.definition.specs.Greedy.{State, meet}
-use Rattle.laws.specs.All.{All, all-at, all_take, all_weaker}
+use Rattle.laws.specs.All.{All, all_at, all_take, all_weaker}
 use Rattle.laws.specs.Paired.{items_of, items-append}
 use Rattle.kept.specs.Kept.{Inside}
 use Rattle.kept.specs.Says.{Standing, Works, Working, Admitted, Met, meets}
-use Rattle.kept.specs.Cases.{meets-none, meets-one, meets-more}
+use Rattle.kept.specs.Cases.{meets-none, meets-one, meets_more}
 
 -- ---- work stays such on which it is safe to run
-works-wider : (n beam : ℕ) (s : Standing) (frontier work : List Item) → Works n beam s frontier work → Works 65536 beam s frontier work
-works-wider n beam s frontier work k =
+works_wider : (n beam : ℕ) (s : Standing) (frontier work : List Item) → Works n beam s frontier work → Works 65536 beam s frontier work
+works_wider n beam s frontier work k =
     record {
       nodes = omega arith;
-      beam-le = k.beam-le;
+      beam_le = k.beam_le;
       kept = k.kept;
       rest = k.rest;
-      keys-are = k.keys-are;
+      keys_are = k.keys_are;
       len_is = k.len_is;
-      len-le = k.len-le;
-      done-le = k.done-le;
-      bound-is = k.bound-is;
+      len_le = k.len_le;
+      done_le = k.done_le;
+      bound_is = k.bound_is;
       sorted = k.sorted;
       inside = all_weaker (Inside n) (Inside 65536) (λ z w. (omega (arith, k.nodes), w.1)) k.kept k.inside;
       walked = k.walked;
-      work-is = k.work-is;
-      frontier-is = k.frontier-is;
+      work_is = k.work_is;
+      frontier_is = k.frontier_is;
       beyond = k.beyond;
     }
 
@@ -41,7 +41,7 @@ working-still beam s s₂ dist id h w a =
       n = 65536;
       frontier = (meet beam (item dist id) st).frontier;
       work = (meet beam (item dist id) st).work;
-      is = a.working 65536 st h (works-wider w.n beam s w.frontier w.work w.is);
+      is = a.working 65536 st h (works_wider w.n beam s w.frontier w.work w.is);
     }
   where
     st : State
@@ -54,9 +54,9 @@ pub record MetTo (beam : ℕ) (s₀ : Standing) (ids dists : List ℕ) (s : Stan
   pub met : Met beam s₀ s (take j ids) (take j dists)
 
 module _ (beam : ℕ) (s₀ : Standing) (ids dists : List ℕ) (same : length ids ≡ length dists) where
-  pub met-none : Working beam s₀ → MetTo beam s₀ ids dists s₀ 0
+  pub met_none : Working beam s₀ → MetTo beam s₀ ids dists s₀ 0
   unfolding items_of
-  met-none w =
+  met_none w =
       record {
         le = omega arith;
         working = w;
@@ -74,30 +74,30 @@ module _ (beam : ℕ) (s₀ : Standing) (ids dists : List ℕ) (same : length id
         ∙ items-append (take j ids) (get_or ids j 0 ∷ []) (take j dists) (get_or dists j 0 ∷ [])
         (length-take-le j ids (omega arith) ∙ sym (length-take-le j dists (omega arith)))
 
-    meets-then : (st : State) → meets beam st (items_of (take (suc j) ids) (take (suc j) dists))
+    meets_then : (st : State) → meets beam st (items_of (take (suc j) ids) (take (suc j) dists))
         ≡ meet beam (item (get_or dists j 0) (get_or ids j 0)) (meets beam st (items_of (take j ids) (take j dists)))
-    meets-then st = ap (meets beam st) items_more ∙ meets-more beam st (items_of (take j ids) (take j dists)) _ ∙ meets-one beam _ _
+    meets_then st = ap (meets beam st) items_more ∙ meets_more beam st (items_of (take j ids) (take j dists)) _ ∙ meets-one beam _ _
 
-    met-suc : Met beam s₀ s₂ (take (suc j) ids) (take (suc j) dists)
-    met-suc =
+    met_suc : Met beam s₀ s₂ (take (suc j) ids) (take (suc j) dists)
+    met_suc =
         record {
           working = λ n st l k.
               let front : All (λ (i : ℕ). i < n) (take j ids) =
               subst (All (λ (i : ℕ). i < n)) (take-take j (suc j) ids (omega arith)) (all_take (λ (i : ℕ). i < n) j (take (suc j) ids) l) in
               let own : get_or ids j 0 < n =
               subst (λ (i : ℕ). i < n) (get_or-take (suc j) ids j 0 (omega arith))
-              (all-at (λ (i : ℕ). i < n) 0 (take (suc j) ids) l j (omega (arith, length-take-le (suc j) ids h))) in
-              subst (λ (z : State). Works n beam s₂ z.frontier z.work) (sym (meets-then st))
+              (all_at (λ (i : ℕ). i < n) 0 (take (suc j) ids) l j (omega (arith, length-take-le (suc j) ids h))) in
+              subst (λ (z : State). Works n beam s₂ z.frontier z.work) (sym (meets_then st))
               (a.working n (meets beam st (items_of (take j ids) (take j dists))) own (m.met.working n st front k));
         }
 
-    pub met-more : All (λ (i : ℕ). i < 65536) ids → MetTo beam s₀ ids dists s₂ (j + 1)
-    met-more low =
+    pub met_more : All (λ (i : ℕ). i < 65536) ids → MetTo beam s₀ ids dists s₂ (j + 1)
+    met_more low =
         rw (add-one j)
         (record {
           le = h;
-          working = working-still beam s s₂ (get_or dists j 0) (get_or ids j 0) (all-at (λ (i : ℕ). i < 65536) 0 ids low j h) m.working a;
-          met = met-suc;
+          working = working-still beam s s₂ (get_or dists j 0) (get_or ids j 0) (all_at (λ (i : ℕ). i < 65536) 0 ids low j h) m.working a;
+          met = met_suc;
         })
 
   pub met_all : (s : Standing) (j : ℕ) → MetTo beam s₀ ids dists s j → length ids ≤ j → Met beam s₀ s ids dists

@@ -3,18 +3,18 @@
 use Rattle.std.specs.Prelude.{◌≡◌, Bool, true, false, cond, List, [], ◌∷◌, map, ℕ, ◌≤◌, ◌<◌, ltb, length}
 use Rattle.definition.specs.Beam.{Item, worst}
 use Rattle.laws.specs.All.{All}
-use Rattle.beam.specs.Keys.{half, closedKey, openKey}
+use Rattle.beam.specs.Keys.{half, closed_key, open_key}
 
 pub record Kept : Type 0 where
   pub of : Item
-  pub isOpen : Bool
+  pub is_open : Bool
 
 abbrev pub opening : Item → Kept
-opening x = record { of = x; isOpen = true }
+opening x = record { of = x; is_open = true }
 
 -- the item as one number
 unfoldable pub key_of : Kept → ℕ
-key_of k = cond k.isOpen (openKey k.of.dist k.of.id) (closedKey k.of.dist k.of.id)
+key_of k = cond k.is_open (open_key k.of.dist k.of.id) (closed_key k.of.dist k.of.id)
 
 abbrev pub keys_of : List Kept → List ℕ
 keys_of ks = map key_of ks
@@ -24,11 +24,11 @@ items ks = map (λ (k : Kept). k.of) ks
 
 unfoldable pub opens : List Kept → List Item
 opens [] = []
-opens (k ∷ ks) = let r = opens ks in cond k.isOpen (k.of ∷ r) r
+opens (k ∷ ks) = let r = opens ks in cond k.is_open (k.of ∷ r) r
 
 -- none is open
 abbrev pub Closed : List Kept → Type 0
-Closed ks = All (λ (k : Kept). k.isOpen ≡ false) ks
+Closed ks = All (λ (k : Kept). k.is_open ≡ false) ks
 
 -- an entry below n, at a distance that fits into half a key
 abbrev pub Inside : ℕ → Kept → Type 0

@@ -5,7 +5,7 @@ use Rattle.definition.specs.Greedy.{State, meet, stops, popped}
 use Rattle.laws.specs.All.{All}
 use Rattle.laws.specs.Backwards.{rev}
 use Rattle.laws.specs.Paired.{items_of}
-use Rattle.beam.specs.Keys.{half, none, openKey, dist_of, item_of, Rising}
+use Rattle.beam.specs.Keys.{half, none, open_key, dist_of, item_of, Rising}
 use Rattle.kept.specs.declared.Work.{Work}
 use Rattle.kept.specs.declared.Popped.{Popped}
 use Rattle.kept.specs.Kept.{Kept, keys_of, items, opens, Closed, Inside, Falling, Beyond}
@@ -22,28 +22,28 @@ abbrev pub works : ℕ → ℕ → ℕ → Work
 works len done bound = record { len = len; done = done; bound = bound }
 
 -- what a key must be below to come in, from the work itself
-unfoldable pub boundOf : ℕ → List Item → ℕ
-boundOf beam work = cond (ltb (length work) beam) none ((worst work).dist * half)
+unfoldable pub bound_of : ℕ → List Item → ℕ
+bound_of beam work = cond (ltb (length work) beam) none ((worst work).dist * half)
 
-abbrev pub noWork : ℕ → Work
-noWork beam = works 0 0 (boundOf beam [])
+abbrev pub no_work : ℕ → Work
+no_work beam = works 0 0 (bound_of beam [])
 
 -- the keys are those of `kept`, the best first, and then free places; of what is open the frontier has nothing but what was cut from work
 pub record Works (n beam : ℕ) (s : Standing) (frontier work : List Item) : Type 0 where
   pub nodes : n ≤ 65536
-  pub beam-le : beam ≤ 256
+  pub beam_le : beam ≤ 256
   pub kept : List Kept
   pub rest : List Item
-  pub keys-are : s.keys ≡ rev (keys_of kept) ++ replicate (256 - length kept) none
+  pub keys_are : s.keys ≡ rev (keys_of kept) ++ replicate (256 - length kept) none
   pub len_is : length kept ≡ s.work.len
-  pub len-le : s.work.len ≤ beam
-  pub done-le : s.work.done ≤ s.work.len
-  pub bound-is : s.work.bound ≡ boundOf beam (items kept)
+  pub len_le : s.work.len ≤ beam
+  pub done_le : s.work.done ≤ s.work.len
+  pub bound_is : s.work.bound ≡ bound_of beam (items kept)
   pub sorted : Falling kept
   pub inside : All (Inside n) kept
   pub walked : Closed (drop (s.work.len - s.work.done) kept)
-  pub work-is : work ≡ items kept
-  pub frontier-is : frontier ≡ rest ++ opens kept
+  pub work_is : work ≡ items kept
+  pub frontier_is : frontier ≡ rest ++ opens kept
   pub beyond : All (Beyond beam (items kept)) rest
 
 -- those of some work: what is safe to run on
@@ -56,18 +56,18 @@ pub record Working (beam : ℕ) (s : Standing) : Type 0 where
 -- ---- the tests of the code, on keys
 
 -- the bound, where the last of len keys is the worst
-unfoldable pub boundK : List ℕ → ℕ → ℕ → ℕ
-boundK keys len beam = cond (ltb len beam) none (dist_of (get_or keys (len - 1) 0) * half)
+unfoldable pub bound_k : List ℕ → ℕ → ℕ → ℕ
+bound_k keys len beam = cond (ltb len beam) none (dist_of (get_or keys (len - 1) 0) * half)
 
 -- the stop, where the d best are walked: none is left, or the next is not strictly nearer than the worst of a full work
-unfoldable pub haltsK : List ℕ → ℕ → ℕ → ℕ → Bool
-haltsK keys beam len d = leb len d || (not (ltb len beam) && leb (dist_of (get_or keys (len - 1) 0)) (dist_of (get_or keys d 0)))
+unfoldable pub halts_k : List ℕ → ℕ → ℕ → ℕ → Bool
+halts_k keys beam len d = leb len d || (not (ltb len beam) && leb (dist_of (get_or keys (len - 1) 0)) (dist_of (get_or keys d 0)))
 
 -- ---- what each function does
 
 -- an item came, as a newly visited entry; of the keys, what is no farther stands as it stood, and so does every place from the cap on
 pub record Admitted (beam : ℕ) (before after : Standing) (dist id : ℕ) : Type 0 where
-  pub nearer : (k : ℕ) → k < length before.keys → get_or before.keys k 0 ≤ openKey dist id → get_or after.keys k 0 ≡ get_or before.keys k 0
+  pub nearer : (k : ℕ) → k < length before.keys → get_or before.keys k 0 ≤ open_key dist id → get_or after.keys k 0 ≡ get_or before.keys k 0
   pub capped : drop beam after.keys ≡ drop beam before.keys
   pub working : (n : ℕ) (st : State) → id < n → Works n beam before st.frontier st.work
       → Works n beam after (meet beam (item dist id) st).frontier (meet beam (item dist id) st).work
@@ -90,9 +90,9 @@ pub record Next (keys : List ℕ) (w : Work) (r : ℕ) : Type 0 where
 
 -- a pop finds nothing where the definition stops; else what it finds is the best of the frontier, which leaves it
 pub record Pops (beam : ℕ) (before : Standing) (keys : List ℕ) (r : Popped) : Type 0 where
-  pub found-is : (n : ℕ) (st : State) → Works n beam before st.frontier st.work → r.found ≡ not (stops beam st)
+  pub found_is : (n : ℕ) (st : State) → Works n beam before st.frontier st.work → r.found ≡ not (stops beam st)
   pub same : r.found ≡ false → keys ≡ before.keys
-  pub id-is : r.found ≡ true → (n : ℕ) (st : State) → Works n beam before st.frontier st.work
+  pub id_is : r.found ≡ true → (n : ℕ) (st : State) → Works n beam before st.frontier st.work
       → (r.id ≡ (best st.frontier).id) × (r.id < n)
   pub working : r.found ≡ true → (n : ℕ) (st : State) → Works n beam before st.frontier st.work
       → Works n beam (standing keys (works before.work.len r.done before.work.bound)) (popped st).frontier (popped st).work
@@ -101,4 +101,4 @@ pub record Pops (beam : ℕ) (before : Standing) (keys : List ℕ) (r : Popped) 
 pub record Tells (keys : List ℕ) (len : ℕ) (work : List Item) : Type 0 where
   pub size : length work ≡ len
   pub up : Rising keys
-  pub items-are : map item_of (take len keys) ≡ rev work
+  pub items_are : map item_of (take len keys) ≡ rev work

@@ -3,7 +3,7 @@
 
 ghost use Rattle.std.specs.Prelude.{◌≡◌, ℕ, ◌+◌, ◌≤◌, ◌<◌, length};
 ghost use Rattle.laws.specs.All.{All};
-ghost use Rattle.kept.specs.Says.{noWork, boundK, haltsK, standing, Working, Admitted, Met, Next, Pops};
+ghost use Rattle.kept.specs.Says.{no_work, bound_k, halts_k, standing, Working, Admitted, Met, Next, Pops};
 
 // How many items work has, how many of these, the best, are walked, and what the key of a further item must be below to come in.
 #[derive(Drop)]
@@ -23,7 +23,7 @@ pub struct Popped {
 
 // No items. With beam 0 none comes in.
 pub fn empty(beam: usize) -> Work
-    ensures { result ≡ noWork beam }
+    ensures { result ≡ no_work beam }
 {
     let bound = if beam == 0 { 0 } else { beam::NONE };
     Work {
@@ -36,7 +36,7 @@ pub fn empty(beam: usize) -> Work
 // The bound: any key comes in while work is below beam; then its distance must be strictly below the worst's.
 fn bound_of(keys: &[u64], len: usize, beam: usize) -> u64
     requires { (0 < len) × (len ≤ length keys.now) }
-    ensures { result ≡ boundK keys.now len beam }
+    ensures { result ≡ bound_k keys.now len beam }
 {
     if len < beam {
         return beam::NONE;
@@ -99,7 +99,7 @@ fn next(keys: &[u64], w: Work) -> usize
 // All of work is walked; or work has at least beam items, and the best that is not walked is not strictly nearer than the worst.
 fn halts(keys: &[u64], beam: usize, w: Work, d: usize) -> bool
     requires { w.len ≤ length keys.now }
-    ensures { result ≡ haltsK keys.now beam w.len d }
+    ensures { result ≡ halts_k keys.now beam w.len d }
 {
     if w.len <= d {
         return true;

@@ -13,9 +13,9 @@ use mathlib.Core.List.Memᴰ.{eq_of_singleton as only_one}
 use mathlib.Core.List.Memᴰ.{not-nil}
 use mathlib.Core.List.Memᴰ.{of_map}
 use Rattle.std.proofs.lemmas.Bool.{not-true}
-use Rattle.definition.specs.Lists.{keep, run, isIn, distinct}
-use Rattle.laws.specs.Truth.{either, decide, and_both, both-and, is-not}
-use Rattle.laws.specs.Members.{cons-elim, take-mem, keep-mem, isIn-mem, isIn-none, none-isIn, run-mem, mem-run, length_run}
+use Rattle.definition.specs.Lists.{keep, run, is_in, distinct}
+use Rattle.laws.specs.Truth.{either, decide, and_both, both_and, is_not}
+use Rattle.laws.specs.Members.{cons_elim, take_mem, keep_mem, is_in-mem, is_in-none, none-is_in, run-mem, mem-run, length_run}
 
 -- each unlike all later ones
 pub data Apart {A : Type 0} : List A → Type 0 where
@@ -23,47 +23,47 @@ pub data Apart {A : Type 0} : List A → Type 0 where
   another : {x : A} {xs : List A} → ¬ Mem x xs → Apart xs → Apart (x ∷ xs)
 
 module _ {A : Type 0} where
-  pub apart-head : {x : A} {xs : List A} → Apart (x ∷ xs) → ¬ Mem x xs
-  apart-head (another n a) = n
+  pub apart_head : {x : A} {xs : List A} → Apart (x ∷ xs) → ¬ Mem x xs
+  apart_head (another n a) = n
 
-  pub apart-tail : {x : A} {xs : List A} → Apart (x ∷ xs) → Apart xs
-  apart-tail (another n a) = a
+  pub apart_tail : {x : A} {xs : List A} → Apart (x ∷ xs) → Apart xs
+  apart_tail (another n a) = a
 
   -- the library's Nodup says the same
-  pub apart-nodup : {xs : List A} → Apart xs → Nodup xs
-  apart-nodup nobody = Pairwise.nil
-  apart-nodup (another {x = x} {xs = xs} n a) = Pairwise.cons (λ y m e. ∥∥₁_elim m ⊥_prop (λ d. n (subst (λ (z : A). Mem z xs) (sym e) d))) (apart-nodup a)
+  pub apart_nodup : {xs : List A} → Apart xs → Nodup xs
+  apart_nodup nobody = Pairwise.nil
+  apart_nodup (another {x = x} {xs = xs} n a) = Pairwise.cons (λ y m e. ∥∥₁_elim m ⊥_prop (λ d. n (subst (λ (z : A). Mem z xs) (sym e) d))) (apart_nodup a)
 
-  pub nodup-apart : {xs : List A} → Nodup xs → Apart xs
-  nodup-apart Pairwise.nil = nobody
-  nodup-apart (Pairwise.cons {a = x} {l = xs} h p) = another (λ m. h x ∣ m ∣₁ refl) (nodup-apart p)
+  pub nodup_apart : {xs : List A} → Nodup xs → Apart xs
+  nodup_apart Pairwise.nil = nobody
+  nodup_apart (Pairwise.cons {a = x} {l = xs} h p) = another (λ m. h x ∣ m ∣₁ refl) (nodup_apart p)
 
-  pub apart-append : {xs : List A} (ys : List A) → Apart xs → Apart ys → ((z : A) → Mem z xs → ¬ Mem z ys) → Apart (xs ++ ys)
-  apart-append ys nobody b f = b
-  apart-append ys (another {x = x} {xs = xs} n a) b f = another (λ m. go (split xs m)) (apart-append ys a b (λ z m. f z (there m)))
+  pub apart_append : {xs : List A} (ys : List A) → Apart xs → Apart ys → ((z : A) → Mem z xs → ¬ Mem z ys) → Apart (xs ++ ys)
+  apart_append ys nobody b f = b
+  apart_append ys (another {x = x} {xs = xs} n a) b f = another (λ m. go (split xs m)) (apart_append ys a b (λ z m. f z (there m)))
     where
       go : Mem x xs ⊎ Mem x ys → ⊥
       go (inl h) = n h
       go (inr h) = f x (here refl) h
 
   pub apart_snoc : {xs : List A} (x : A) → Apart xs → ¬ Mem x xs → Apart (xs ++ (x ∷ []))
-  apart_snoc {xs} x a n = apart-append (x ∷ []) a (another not-nil nobody) (λ z m h. n (subst (λ (u : A). Mem u xs) (only_one h) m))
+  apart_snoc {xs} x a n = apart_append (x ∷ []) a (another not-nil nobody) (λ z m h. n (subst (λ (u : A). Mem u xs) (only_one h) m))
 
-  pub apart-take : (k : ℕ) {xs : List A} → Apart xs → Apart (take k xs)
-  apart-take zero a = nobody
-  apart-take (suc k) nobody = nobody
-  apart-take (suc k) (another {xs = xs} n a) = another (λ m. n (take-mem k xs m)) (apart-take k a)
+  pub apart_take : (k : ℕ) {xs : List A} → Apart xs → Apart (take k xs)
+  apart_take zero a = nobody
+  apart_take (suc k) nobody = nobody
+  apart_take (suc k) (another {xs = xs} n a) = another (λ m. n (take_mem k xs m)) (apart_take k a)
 
-  pub apart-drop : (k : ℕ) {xs : List A} → Apart xs → Apart (drop k xs)
-  apart-drop zero a = a
-  apart-drop (suc k) nobody = nobody
-  apart-drop (suc k) (another n a) = apart-drop k a
+  pub apart_drop : (k : ℕ) {xs : List A} → Apart xs → Apart (drop k xs)
+  apart_drop zero a = a
+  apart_drop (suc k) nobody = nobody
+  apart_drop (suc k) (another n a) = apart_drop k a
 
-  pub apart-keep : (p : A → Bool) {xs : List A} → Apart xs → Apart (keep p xs)
+  pub apart_keep : (p : A → Bool) {xs : List A} → Apart xs → Apart (keep p xs)
   unfolding keep
-  apart-keep p nobody = nobody
-  apart-keep p (another {x = x} {xs = xs} n a) =
-      either (λ (l : List A). Apart l) (p x) (another (λ m. n (keep-mem p xs m).0) (apart-keep p a)) (apart-keep p a)
+  apart_keep p nobody = nobody
+  apart_keep p (another {x = x} {xs = xs} n a) =
+      either (λ (l : List A). Apart l) (p x) (another (λ m. n (keep_mem p xs m).0) (apart_keep p a)) (apart_keep p a)
 
 -- images of a list of which no two are alike
 pub apart-map : {A B : Type 0} (f : A → B) {xs : List A} → ((x y : A) → Mem x xs → Mem y xs → f x ≡ f y → x ≡ y) → Apart xs → Apart (map f xs)
@@ -86,13 +86,13 @@ pub distinct_apart : (xs : List ℕ) → distinct xs ≡ true → Apart xs
 unfolding distinct
 distinct_apart [] t = nobody
 distinct_apart (x ∷ xs) t =
-    let b = and_both (not (isIn x xs)) (distinct xs) t in
-    another (isIn-none x xs (not-true (isIn x xs) b.0)) (distinct_apart xs b.1)
+    let b = and_both (not (is_in x xs)) (distinct xs) t in
+    another (is_in-none x xs (not-true (is_in x xs) b.0)) (distinct_apart xs b.1)
 
 pub apart_distinct : {xs : List ℕ} → Apart xs → distinct xs ≡ true
 unfolding distinct
 apart_distinct nobody = refl
-apart_distinct (another {x = x} {xs = xs} n a) = both-and (not (isIn x xs)) (distinct xs) (is-not (isIn x xs) (none-isIn x xs n)) (apart_distinct a)
+apart_distinct (another {x = x} {xs = xs} n a) = both_and (not (is_in x xs)) (distinct xs) (is_not (is_in x xs) (none-is_in x xs n)) (apart_distinct a)
 
 -- ---- how long
 
@@ -119,21 +119,21 @@ without x (y ∷ ys) m = go (λ h. without x ys h) (cases m)
     go ih (inr h) = let w = ih h in record { others = y ∷ w.others; shorter = ap suc w.shorter; rest = λ z k d. deeper w z d (cases k) }
 
 -- no longer than what holds it all
-pub apart-within : {xs : List ℕ} (ys : List ℕ) → Apart xs → ((z : ℕ) → Mem z xs → Mem z ys) → length xs ≤ length ys
-apart-within ys nobody f = zero-le
-apart-within ys (another {x = x} {xs = xs} n a) f =
+pub apart_within : {xs : List ℕ} (ys : List ℕ) → Apart xs → ((z : ℕ) → Mem z xs → Mem z ys) → length xs ≤ length ys
+apart_within ys nobody f = zero-le
+apart_within ys (another {x = x} {xs = xs} n a) f =
     let w = without x ys (f x (here refl)) in
-    let le = apart-within w.others a (λ z m. w.rest z (f z (there m)) (λ e. n (subst (λ (u : ℕ). Mem u xs) e m))) in
+    let le = apart_within w.others a (λ z m. w.rest z (f z (there m)) (λ e. n (subst (λ (u : ℕ). Mem u xs) e m))) in
     omega (arith, w.shorter)
 
 -- so there are at most n numbers below n
 pub apart_below : {xs : List ℕ} (n : ℕ) → Apart xs → ((z : ℕ) → Mem z xs → z < n) → length xs ≤ n
 apart_below n a f =
-    let le = apart-within (run 0 n) a (λ z m. mem-run 0 n z zero-le (omega (arith, f z m))) in
+    let le = apart_within (run 0 n) a (λ z m. mem-run 0 n z zero-le (omega (arith, f z m))) in
     omega (arith, length_run 0 n)
 
 -- and n of them are all
-pub apart-full : {xs : List ℕ} (n : ℕ) → Apart xs → ((z : ℕ) → Mem z xs → z < n) → n ≤ length xs → (i : ℕ) → i < n → Mem i xs
-apart-full {xs} n a f h i l =
-    decide (isIn i xs) (isIn-mem i xs)
-    (λ e. let most = apart_below n (another (isIn-none i xs e) a) (cons-elim (λ z. z < n) i xs l f) in absurd (omega arith))
+pub apart_full : {xs : List ℕ} (n : ℕ) → Apart xs → ((z : ℕ) → Mem z xs → z < n) → n ≤ length xs → (i : ℕ) → i < n → Mem i xs
+apart_full {xs} n a f h i l =
+    decide (is_in i xs) (is_in-mem i xs)
+    (λ e. let most = apart_below n (another (is_in-none i xs e) a) (cons_elim (λ z. z < n) i xs l f) in absurd (omega arith))

@@ -13,19 +13,19 @@ module _ {A : Type 0} where
   rev [] = []
   rev (x ∷ xs) = rev xs ++ (x ∷ [])
 
-  pub length-rev : (l : List A) → length (rev l) ≡ length l
+  pub length_rev : (l : List A) → length (rev l) ≡ length l
   unfolding rev
-  length-rev [] = refl
-  length-rev (x ∷ xs) = let h = length-rev xs in length-append (rev xs) (x ∷ []) ∙ omega arith
+  length_rev [] = refl
+  length_rev (x ∷ xs) = let h = length_rev xs in length-append (rev xs) (x ∷ []) ∙ omega arith
 
   -- the i-th from the end
-  pub getD-rev : (d : A) (l : List A) (i : ℕ) → i < length l → get_or (rev l) i d ≡ get_or l (length l - 1 - i) d
+  pub get_or_rev : (d : A) (l : List A) (i : ℕ) → i < length l → get_or (rev l) i d ≡ get_or l (length l - 1 - i) d
   unfolding rev
-  getD-rev d [] i h = absurd (omega arith)
-  getD-rev d (x ∷ xs) i h = go (ltb i (length xs)) refl (λ (l : i < length xs). getD-rev d xs i l)
+  get_or_rev d [] i h = absurd (omega arith)
+  get_or_rev d (x ∷ xs) i h = go (ltb i (length xs)) refl (λ (l : i < length xs). get_or_rev d xs i l)
     where
       n : length (rev xs) ≡ length xs
-      n = length-rev xs
+      n = length_rev xs
 
       go : (t : Bool) → ltb i (length xs) ≡ t → (i < length xs → get_or (rev xs) i d ≡ get_or xs (length xs - 1 - i) d)
           → get_or (rev xs ++ (x ∷ [])) i d ≡ get_or (x ∷ xs) (suc (length xs) - 1 - i) d
@@ -40,8 +40,8 @@ module _ {A : Type 0} where
           ap (λ (k : ℕ). get_or (rev xs ++ (x ∷ [])) k d) p ∙ get_or-append-add (rev xs) (x ∷ []) 0 d ∙ ap (λ (k : ℕ). get_or (x ∷ xs) k d) (sym q)
 
   -- the first k, or all where there are fewer
-  pub take-least : (k c : ℕ) (l : List A) → c ≡ min k (length l) → take c l ≡ take k l
-  take-least k c l e = go (leb k (length l)) refl
+  pub take_least : (k c : ℕ) (l : List A) → c ≡ min k (length l) → take c l ≡ take k l
+  take_least k c l e = go (leb k (length l)) refl
     where
       go : (t : Bool) → leb k (length l) ≡ t → take c l ≡ take k l
       go true q = let h : k ≤ length l = leb-true k (length l) q in let z : c ≡ k = omega arith in ap (λ (m : ℕ). take m l) z
@@ -67,17 +67,17 @@ unfolding rev
 rev-append [] m = sym (append-nil (rev m))
 rev-append {A} (x ∷ l) m = ap (λ (z : List A). z ++ (x ∷ [])) (rev-append l m) ∙ append_assoc (rev m) (rev l) (x ∷ [])
 
-rev-middle : {A : Type 0} (l : List A) (y : A) (m : List A) → rev (l ++ y ∷ m) ≡ rev m ++ y ∷ rev l
+rev_middle : {A : Type 0} (l : List A) (y : A) (m : List A) → rev (l ++ y ∷ m) ≡ rev m ++ y ∷ rev l
 unfolding rev
-rev-middle l y m = rev-append l (y ∷ m) ∙ append_assoc (rev m) (y ∷ []) (rev l)
+rev_middle l y m = rev-append l (y ∷ m) ∙ append_assoc (rev m) (y ∷ []) (rev l)
 
 -- y put in at j: from the back it is put in at the place that has as many in front as there are from j on
-pub rev-put-in : {A : Type 0} (y : A) (l : List A) (j at : ℕ) → j + at ≡ length l
+pub rev_put_in : {A : Type 0} (y : A) (l : List A) (j at : ℕ) → j + at ≡ length l
     → rev (take j l ++ y ∷ drop j l) ≡ take at (rev l) ++ y ∷ drop at (rev l)
-rev-put-in {A} y l j at e = rev-middle (take j l) y (drop j l) ∙ ap₂ (λ (u v : List A). u ++ y ∷ v) (sym front) (sym back)
+rev_put_in {A} y l j at e = rev_middle (take j l) y (drop j l) ∙ ap₂ (λ (u v : List A). u ++ y ∷ v) (sym front) (sym back)
   where
     size : length (rev (drop j l)) ≡ at
-    size = length-rev (drop j l) ∙ length-drop j l ∙ omega arith
+    size = length_rev (drop j l) ∙ length-drop j l ∙ omega arith
 
     parts : rev l ≡ rev (drop j l) ++ rev (take j l)
     parts = ap rev (sym (take-append-drop j l)) ∙ rev-append (take j l) (drop j l)
@@ -91,6 +91,6 @@ rev-put-in {A} y l j at e = rev-middle (take j l) y (drop j l) ∙ ap₂ (λ (u 
 -- the i-th from the end is set
 pub rev-set : {A : Type 0} (d : A) (l : List A) (i j : ℕ) (v : A) → i < length l → j ≡ length l - 1 - i → set (rev l) j v ≡ rev (set l i v)
 rev-set {A} d l i j v h e =
-    ap (λ (z : List A). set z j v) (ap rev (split_at l i d h) ∙ rev-middle (take i l) (get_or l i d) (drop (suc i) l))
-    ∙ set_at (rev (drop (suc i) l)) (get_or l i d) (rev (take i l)) v j (length-rev (drop (suc i) l) ∙ length-drop (suc i) l ∙ omega arith)
-    ∙ sym (rev-middle (take i l) v (drop (suc i) l)) ∙ ap rev (sym (set_split l i v h))
+    ap (λ (z : List A). set z j v) (ap rev (split_at l i d h) ∙ rev_middle (take i l) (get_or l i d) (drop (suc i) l))
+    ∙ set_at (rev (drop (suc i) l)) (get_or l i d) (rev (take i l)) v j (length_rev (drop (suc i) l) ∙ length-drop (suc i) l ∙ omega arith)
+    ∙ sym (rev_middle (take i l) v (drop (suc i) l)) ∙ ap rev (sym (set_split l i v h))

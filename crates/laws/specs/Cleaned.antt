@@ -5,9 +5,9 @@ use Rattle.std.proofs.Math.Bool.{or-true}
 use Rattle.std.proofs.lemmas.Bool.{false≢true, eqb-false}
 use Rattle.std.proofs.lemmas.List.{length-map}
 use Rattle.definition.specs.Lists.{each}
-use Rattle.definition.specs.Tables.{pad, row, searchRule, cleaned}
+use Rattle.definition.specs.Tables.{pad, row, search_rule, cleaned}
 use Rattle.laws.specs.Backwards.{map-take}
-use Rattle.laws.specs.Mapped.{map-drop}
+use Rattle.laws.specs.Mapped.{map_drop}
 use Rattle.laws.specs.Truth.{decide}
 use Rattle.laws.specs.Words.{padding, Searchable}
 
@@ -19,7 +19,7 @@ pub row-cleaned : (n width : ℕ) (table : List ℕ) (i : ℕ) → row width (cl
 unfolding row cleaned
 row-cleaned n width table i =
     let f : ℕ → ℕ = λ w. cond (ltb w n) w pad in
-    ap (take width) (sym (map-drop f (i * width) table)) ∙ sym (map-take f width (drop (i * width) table))
+    ap (take width) (sym (map_drop f (i * width) table)) ∙ sym (map-take f width (drop (i * width) table))
 
 -- one word of a table that may be searched stays as it is
 word_same : (n w : ℕ) → ((w ≡ padding → ⊥) → w < n) → cond (ltb w n) w pad ≡ w
@@ -35,10 +35,10 @@ cleaned-same n [] r = refl
 cleaned-same n (w ∷ ws) r = ap₂ (λ (x : ℕ) (l : List ℕ). x ∷ l) (word_same n w (r 0 (omega arith))) (cleaned-same n ws (λ k h. r (suc k) (omega arith)))
 
 -- what is cleaned keeps the search rule
-pub cleaned-rule : (n : ℕ) (table : List ℕ) → searchRule n (cleaned n table) ≡ true
-unfolding searchRule cleaned each
-cleaned-rule n [] = refl
-cleaned-rule n (w ∷ ws) = ap₂ (λ (a b : Bool). a && b) (go (ltb w n) refl) (cleaned-rule n ws)
+pub cleaned_rule : (n : ℕ) (table : List ℕ) → search_rule n (cleaned n table) ≡ true
+unfolding search_rule cleaned each
+cleaned_rule n [] = refl
+cleaned_rule n (w ∷ ws) = ap₂ (λ (a b : Bool). a && b) (go (ltb w n) refl) (cleaned_rule n ws)
   where
     go : (t : Bool) → ltb w n ≡ t → (eqb (cond t w pad) pad || ltb (cond t w pad) n) ≡ true
     go true e = ap (λ (b : Bool). eqb w pad || b) e ∙ or-true (eqb w pad)

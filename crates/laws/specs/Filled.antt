@@ -35,22 +35,22 @@ module _ {A : Type 0} (v : A) where
       f.is ∙ rw (drop_of_length-le old {i = i} h, append-nil, q) refl
 
   -- what was cleared is long enough to be cleared again and no longer than before, and beyond that front it is as it was
-  pub cleared-long : (room : ℕ) (old : List A) → room ≤ length (cleared v room old)
+  pub cleared_long : (room : ℕ) (old : List A) → room ≤ length (cleared v room old)
   unfolding cleared
-  cleared-long room old = omega (arith, length-append (replicate room v) (drop room old), length-replicate room v)
+  cleared_long room old = omega (arith, length-append (replicate room v) (drop room old), length-replicate room v)
 
-  pub cleared-length : (room : ℕ) (old : List A) → room ≤ length old → length (cleared v room old) ≡ length old
+  pub cleared_length : (room : ℕ) (old : List A) → room ≤ length old → length (cleared v room old) ≡ length old
   unfolding cleared
-  cleared-length room old h = omega (arith, length-append (replicate room v) (drop room old), length-replicate room v, length-drop room old)
+  cleared_length room old h = omega (arith, length-append (replicate room v) (drop room old), length-replicate room v, length-drop room old)
 
-  pub cleared-beyond : (room : ℕ) (old : List A) → drop room (cleared v room old) ≡ drop room old
+  pub cleared_beyond : (room : ℕ) (old : List A) → drop room (cleared v room old) ≡ drop room old
   unfolding cleared
-  cleared-beyond room old = drop_at (replicate room v) (drop room old) room (length-replicate room v)
+  cleared_beyond room old = drop_at (replicate room v) (drop room old) room (length-replicate room v)
 
   -- lists that are the same beyond a front are the same when it is cleared
-  pub cleared-same : (room : ℕ) (a b : List A) → drop room a ≡ drop room b → cleared v room a ≡ cleared v room b
+  pub cleared_same : (room : ℕ) (a b : List A) → drop room a ≡ drop room b → cleared v room a ≡ cleared v room b
   unfolding cleared
-  cleared-same room a b e = ap (λ (l : List A). replicate room v ++ l) e
+  cleared_same room a b e = ap (λ (l : List A). replicate room v ++ l) e
 
   -- what stands in the front
   pub cleared_at : (room : ℕ) (old : List A) (i : ℕ) (d : A) → i < room → get_or (cleared v room old) i d ≡ v

@@ -7,9 +7,9 @@ abbrev pub listed : ℕ → List ℕ → Listed
 listed u fresh = record { node = u; fresh = fresh }
 
 -- how many words a fresh row has, and so how far apart the fresh rows lie: the greatest degree
-abbrev pub freshWidth : ℕ
-freshWidth = 64
+abbrev pub fresh_width : ℕ
+fresh_width = 64
 
 unfoldable pub listed_at : List ℕ → List ℕ → List Listed
 listed_at [] t = []
-listed_at (u ∷ us) t = listed u (ids (take freshWidth t)) ∷ listed_at us (drop freshWidth t)
+listed_at (u ∷ us) t = listed u (ids (take fresh_width t)) ∷ listed_at us (drop fresh_width t)

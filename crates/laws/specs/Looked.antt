@@ -3,7 +3,7 @@ use Rattle.std.specs.Prelude.{◌≡◌, refl, Bool, true, false, not, ◌||◌,
 use Rattle.std.proofs.Common.{sym, ap, ◌∙◌, arith}
 use Rattle.std.proofs.Math.Bool.{or-true, or-false, not-not}
 use Rattle.definition.specs.Lists.{each}
-use Rattle.laws.specs.Members.{each_step, each-end}
+use Rattle.laws.specs.Members.{each_step, each_end}
 
 pub record Looked (p : ℕ → Bool) (l : List ℕ) (i : ℕ) (found : Bool) : Type 0 where
   pub upto : i ≤ length l
@@ -13,19 +13,19 @@ pub look-start : (p : ℕ → Bool) (l : List ℕ) → Looked p l 0 false
 look-start p l = record { upto = omega arith; same = refl }
 
 module _ (p : ℕ → Bool) (l : List ℕ) (i : ℕ) (found : Bool) (w : Looked p l i found) (h : i < length l) where
-  pub look-bad : p (get_or l i 0) ≡ false → Looked p l (i + 1) true
-  look-bad e =
+  pub look_bad : p (get_or l i 0) ≡ false → Looked p l (i + 1) true
+  look_bad e =
       let broken : each p (drop i l) ≡ false = each_step p l i h ∙ rw e refl in
       record { upto = omega arith; same = sym (or-true found) ∙ ap (λ (t : Bool). found || not t) (sym broken) ∙ w.same }
 
-  pub look-good : p (get_or l i 0) ≡ true → Looked p l (i + 1) found
-  look-good e =
+  pub look_good : p (get_or l i 0) ≡ true → Looked p l (i + 1) found
+  look_good e =
       let kept : each p (drop i l) ≡ each p (drop (i + 1) l) = each_step p l i h ∙ rw e refl in
       record { upto = omega arith; same = ap (λ (t : Bool). found || not t) (sym kept) ∙ w.same }
 
 module _ (p : ℕ → Bool) (l : List ℕ) (i : ℕ) (found : Bool) (w : Looked p l i found) (h : length l ≤ i) where
-  pub look-end : found ≡ not (each p l)
-  look-end = sym (or-false found) ∙ ap (λ (t : Bool). found || not t) (sym (each-end p l i h)) ∙ w.same
+  pub look_end : found ≡ not (each p l)
+  look_end = sym (or-false found) ∙ ap (λ (t : Bool). found || not t) (sym (each_end p l i h)) ∙ w.same
 
   pub look_none : not found ≡ each p l
-  look_none = ap not look-end ∙ not-not (each p l)
+  look_none = ap not look_end ∙ not-not (each p l)

@@ -15,15 +15,15 @@ module _ {A B : Type 0} (f : A → B) where
   pub map_snoc : (l : List A) (x : A) → map f (l ++ (x ∷ [])) ≡ map f l ++ (f x ∷ [])
   map_snoc l x = map-append f l (x ∷ [])
 
-  pub map-drop : (k : ℕ) (l : List A) → map f (drop k l) ≡ drop k (map f l)
-  map-drop zero l = refl
-  map-drop (suc k) [] = refl
-  map-drop (suc k) (x ∷ xs) = map-drop k xs
+  pub map_drop : (k : ℕ) (l : List A) → map f (drop k l) ≡ drop k (map f l)
+  map_drop zero l = refl
+  map_drop (suc k) [] = refl
+  map_drop (suc k) (x ∷ xs) = map_drop k xs
 
-  pub map-set : (l : List A) (i : ℕ) (x : A) → map f (set l i x) ≡ set (map f l) i (f x)
-  map-set [] i x = refl
-  map-set (y ∷ ys) zero x = refl
-  map-set (y ∷ ys) (suc i) x = ap (λ (z : List B). f y ∷ z) (map-set ys i x)
+  pub map_set : (l : List A) (i : ℕ) (x : A) → map f (set l i x) ≡ set (map f l) i (f x)
+  map_set [] i x = refl
+  map_set (y ∷ ys) zero x = refl
+  map_set (y ∷ ys) (suc i) x = ap (λ (z : List B). f y ∷ z) (map_set ys i x)
 
 pub map_same : {A B : Type 0} (f g : A → B) (l : List A) → ((x : A) → Mem x l → f x ≡ g x) → map f l ≡ map g l
 map_same f g [] h = refl

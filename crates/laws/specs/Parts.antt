@@ -9,11 +9,11 @@ use borrow.Rule.Slice.PartMut.{put_mid, same_len_mid, mid_len, take_put, drop_pu
 
 module _ {A : Type 0} where
   -- what is left of the first n places
-  pub drop-take : (k n : ℕ) (l : List A) → drop k (take n l) ≡ take (n - k) (drop k l)
-  drop-take zero n l = rw (sub-zero n) refl
-  drop-take (suc k) zero l = rw (zero-sub (suc k)) refl
-  drop-take (suc k) (suc n) [] = drop-nil (suc k) ∙ sym (take-nil (suc n - suc k))
-  drop-take (suc k) (suc n) (x ∷ xs) = rw (suc-sub-suc n k) (drop-take k n xs)
+  pub drop_take : (k n : ℕ) (l : List A) → drop k (take n l) ≡ take (n - k) (drop k l)
+  drop_take zero n l = rw (sub-zero n) refl
+  drop_take (suc k) zero l = rw (zero-sub (suc k)) refl
+  drop_take (suc k) (suc n) [] = drop-nil (suc k) ∙ sym (take-nil (suc n - suc k))
+  drop_take (suc k) (suc n) (x ∷ xs) = rw (suc-sub-suc n k) (drop_take k n xs)
 
   -- lists that agree from m on agree from n on
   pub drop_more : (m n : ℕ) (a b : List A) → m ≤ n → drop m a ≡ drop m b → drop n a ≡ drop n b
@@ -42,16 +42,16 @@ part_length a e l h = mid_len a e l h
 pub part-front : {A : Type 0} (e : ℕ) (l : List A) → part 0 e l ≡ take e l
 part-front e l = rw (sub-zero e) refl
 
-pub part-front-length : {A : Type 0} (e : ℕ) (l : List A) → e ≤ length l → length (part 0 e l) ≡ e
-part-front-length e l h = part_length 0 e l h ∙ sub-zero e
+pub part_front_length : {A : Type 0} (e : ℕ) (l : List A) → e ≤ length l → length (part 0 e l) ≡ e
+part_front_length e l h = part_length 0 e l h ∙ sub-zero e
 
 module _ {A : Type 0} (a e : ℕ) (l₀ l : List A) (w : Within a e l₀ l) where
-  pub within-below : (b f : ℕ) → f ≤ a → part b f l ≡ part b f l₀
-  within-below b f h =
-      sym (drop-take b f l) ∙ ap (drop b) (sym (take-take f a l h) ∙ ap (take f) w.below ∙ take-take f a l₀ h) ∙ drop-take b f l₀
+  pub within_below : (b f : ℕ) → f ≤ a → part b f l ≡ part b f l₀
+  within_below b f h =
+      sym (drop_take b f l) ∙ ap (drop b) (sym (take-take f a l h) ∙ ap (take f) w.below ∙ take-take f a l₀ h) ∙ drop_take b f l₀
 
-  pub within-above : (b f : ℕ) → e ≤ b → part b f l ≡ part b f l₀
-  within-above b f h = ap (take (f - b)) (drop_more e b l l₀ h w.above)
+  pub within_above : (b f : ℕ) → e ≤ b → part b f l ≡ part b f l₀
+  within_above b f h = ap (take (f - b)) (drop_more e b l l₀ h w.above)
 
   pub within_wider : (b f : ℕ) → b ≤ a → e ≤ f → Within b f l₀ l
   within_wider b f h k =
@@ -61,8 +61,8 @@ module _ {A : Type 0} (a e : ℕ) (l₀ l : List A) (w : Within a e l₀ l) wher
         above = drop_more e f l l₀ k w.above;
       }
 
-pub within-trans : {A : Type 0} (a e : ℕ) (l₀ l₁ l₂ : List A) → Within a e l₀ l₁ → Within a e l₁ l₂ → Within a e l₀ l₂
-within-trans a e l₀ l₁ l₂ v w = record { size = w.size ∙ v.size; below = w.below ∙ v.below; above = w.above ∙ v.above }
+pub within_trans : {A : Type 0} (a e : ℕ) (l₀ l₁ l₂ : List A) → Within a e l₀ l₁ → Within a e l₁ l₂ → Within a e l₀ l₂
+within_trans a e l₀ l₁ l₂ v w = record { size = w.size ∙ v.size; below = w.below ∙ v.below; above = w.above ∙ v.above }
 
 pub within_none : {A : Type 0} (a e : ℕ) (l : List A) → Within a e l l
 within_none a e l = record { size = refl; below = refl; above = refl }
@@ -72,30 +72,30 @@ module _ {A : Type 0} (a e : ℕ) (xs ys : List A) (le : a ≤ e) (fits : e ≤ 
   pub put-length : length ys ≡ e - a
   put-length = same ∙ mid_len a e xs fits
 
-  pub put-within : Within a e xs (put_mid a (e - a) xs ys)
-  put-within =
+  pub put_within : Within a e xs (put_mid a (e - a) xs ys)
+  put_within =
       record { size = same_len_mid a (e - a) xs ys same; below = take_put a (e - a) xs ys (omega arith); above = drop_put a e xs ys le fits put-length }
 
-  pub put-part : part a e (put_mid a (e - a) xs ys) ≡ ys
-  put-part =
+  pub put_part : part a e (put_mid a (e - a) xs ys) ≡ ys
+  put_part =
       ap (take (e - a)) (drop_at (take a xs) (ys ++ drop (e - a) (drop a xs)) a (length-take-le a xs (omega arith)))
       ∙ take_at ys (drop (e - a) (drop a xs)) (e - a) put-length
 
 -- ---- one place
 module _ {A : Type 0} (l : List A) (i : ℕ) (v : A) where
-  pub set-within : Within i (suc i) l (set l i v)
-  set-within = record { size = length-set l i v; below = take-set-le i l i v (omega arith); above = drop-set-lt (suc i) l i v (omega arith) }
+  pub set_within : Within i (suc i) l (set l i v)
+  set_within = record { size = length-set l i v; below = take-set-le i l i v (omega arith); above = drop-set-lt (suc i) l i v (omega arith) }
 
-  pub part-set : (a e j : ℕ) → i ≡ a + j → i < e → part a e (set l i v) ≡ set (part a e l) j v
-  part-set a e j q h =
+  pub part_set : (a e j : ℕ) → i ≡ a + j → i < e → part a e (set l i v) ≡ set (part a e l) j v
+  part_set a e j q h =
       ap (λ (k : ℕ). take (e - a) (drop a (set l k v))) q ∙ ap (take (e - a)) (drop-set-add a l j v) ∙ take-set-lt (e - a) (drop a l) j v (omega arith)
 
-pub within-at : {A : Type 0} (a e : ℕ) (l₀ l : List A) → Within a e l₀ l → (i : ℕ) (d : A) → i < a → get_or l i d ≡ get_or l₀ i d
-within-at {A} a e l₀ l w i d h = sym (get_or-take a l i d h) ∙ ap (λ (z : List A). get_or z i d) w.below ∙ get_or-take a l₀ i d h
+pub within_at : {A : Type 0} (a e : ℕ) (l₀ l : List A) → Within a e l₀ l → (i : ℕ) (d : A) → i < a → get_or l i d ≡ get_or l₀ i d
+within_at {A} a e l₀ l w i d h = sym (get_or-take a l i d h) ∙ ap (λ (z : List A). get_or z i d) w.below ∙ get_or-take a l₀ i d h
 
 -- what lies above the places that differ
-pub within-past : {A : Type 0} (a e : ℕ) (l₀ l : List A) → Within a e l₀ l → (i : ℕ) (d : A) → e ≤ i → get_or l i d ≡ get_or l₀ i d
-within-past {A} a e l₀ l w i d h =
+pub within_past : {A : Type 0} (a e : ℕ) (l₀ l : List A) → Within a e l₀ l → (i : ℕ) (d : A) → e ≤ i → get_or l i d ≡ get_or l₀ i d
+within_past {A} a e l₀ l w i d h =
     let q : e + (i - e) ≡ i = omega arith in
     let at : (z : List A) → get_or z i d ≡ get_or (drop e z) (i - e) d = λ z. ap (λ (k : ℕ). get_or z k d) (sym q) ∙ sym (get_or-drop e z (i - e) d) in
     at l ∙ ap (λ (z : List A). get_or z (i - e) d) w.above ∙ sym (at l₀)

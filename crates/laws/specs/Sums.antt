@@ -9,14 +9,14 @@ use Rattle.laws.specs.Mapped.{map_snoc}
 abbrev pub bit : Bool → ℕ
 bit b = cond b 1 0
 
-pub total-snoc : (xs : List ℕ) (x : ℕ) → total (xs ++ (x ∷ [])) ≡ total xs + x
+pub total_snoc : (xs : List ℕ) (x : ℕ) → total (xs ++ (x ∷ [])) ≡ total xs + x
 unfolding total
-total-snoc [] x = omega arith
-total-snoc (y ∷ ys) x = let e = total-snoc ys x in omega arith
+total_snoc [] x = omega arith
+total_snoc (y ∷ ys) x = let e = total_snoc ys x in omega arith
 
-pub kept-snoc : {A : Type 0} (p : A → Bool) (xs : List A) (x : A) → length (keep p (xs ++ (x ∷ []))) ≡ length (keep p xs) + bit (p x)
+pub kept_snoc : {A : Type 0} (p : A → Bool) (xs : List A) (x : A) → length (keep p (xs ++ (x ∷ []))) ≡ length (keep p xs) + bit (p x)
 unfolding keep
-kept-snoc {A} p xs x =
+kept_snoc {A} p xs x =
     ap (λ (l : List A). length l) (keep_append p xs (x ∷ [])) ∙ length-append (keep p xs) (keep p (x ∷ []))
     ∙ ap (λ (m : ℕ). length (keep p xs) + m) (one (p x))
   where
@@ -24,23 +24,23 @@ kept-snoc {A} p xs x =
     one true = refl
     one false = refl
 
-run-snoc : (s k : ℕ) → run s (suc k) ≡ run s k ++ ((s + k) ∷ [])
+run_snoc : (s k : ℕ) → run s (suc k) ≡ run s k ++ ((s + k) ∷ [])
 unfolding run
-run-snoc s zero = let e : s ≡ s + 0 = omega arith in ap (λ (z : ℕ). z ∷ []) e
-run-snoc s (suc k) =
+run_snoc s zero = let e : s ≡ s + 0 = omega arith in ap (λ (z : ℕ). z ∷ []) e
+run_snoc s (suc k) =
     let e : suc s + k ≡ s + suc k = omega arith in
-    ap (λ (l : List ℕ). s ∷ l) (run-snoc (suc s) k) ∙ ap (λ (z : ℕ). s ∷ run (suc s) k ++ (z ∷ [])) e
+    ap (λ (l : List ℕ). s ∷ l) (run_snoc (suc s) k) ∙ ap (λ (z : ℕ). s ∷ run (suc s) k ++ (z ∷ [])) e
 
 upto_snoc : (n : ℕ) → upto (n + 1) ≡ upto n ++ (n ∷ [])
 unfolding upto
-upto_snoc n = let e : 0 + n ≡ n = omega arith in ap (run 0) (add-one n) ∙ run-snoc 0 n ∙ ap (λ (z : ℕ). run 0 n ++ (z ∷ [])) e
+upto_snoc n = let e : 0 + n ≡ n = omega arith in ap (run 0) (add-one n) ∙ run_snoc 0 n ∙ ap (λ (z : ℕ). run 0 n ++ (z ∷ [])) e
 
 module _ {A : Type 0} (f : ℕ → A) (n : ℕ) where
-  map-upto : map f (upto (n + 1)) ≡ map f (upto n) ++ (f n ∷ [])
-  map-upto = ap (map f) (upto_snoc n) ∙ map_snoc f (upto n) n
+  map_upto : map f (upto (n + 1)) ≡ map f (upto n) ++ (f n ∷ [])
+  map_upto = ap (map f) (upto_snoc n) ∙ map_snoc f (upto n) n
 
-  pub kept-upto : (p : A → Bool) → length (keep p (map f (upto (n + 1)))) ≡ length (keep p (map f (upto n))) + bit (p (f n))
-  kept-upto p = ap (λ (l : List A). length (keep p l)) map-upto ∙ kept-snoc p (map f (upto n)) (f n)
+  pub kept_upto : (p : A → Bool) → length (keep p (map f (upto (n + 1)))) ≡ length (keep p (map f (upto n))) + bit (p (f n))
+  kept_upto p = ap (λ (l : List A). length (keep p l)) map_upto ∙ kept_snoc p (map f (upto n)) (f n)
 
 pub total-upto : (f : ℕ → ℕ) (n : ℕ) → total (map f (upto (n + 1))) ≡ total (map f (upto n)) + f n
-total-upto f n = ap total (map-upto f n) ∙ total-snoc (map f (upto n)) (f n)
+total-upto f n = ap total (map_upto f n) ∙ total_snoc (map f (upto n)) (f n)

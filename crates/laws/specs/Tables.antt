@@ -10,10 +10,10 @@ use Rattle.std.proofs.Math.ListN.{take, drop, length-append, get_or-append}
 use Rattle.std.proofs.lemmas.List.{length-replicate, get_or-replicate}
 use Rattle.definition.specs.Lists.{each, keep, joined, run, upto}
 use Rattle.definition.specs.Slack.{slack}
-use Rattle.definition.specs.Tables.{pad, row, ids, padded, table_of, onlyPad, idsFirst}
+use Rattle.definition.specs.Tables.{pad, row, ids, padded, table_of, only_pad, ids_first}
 use Rattle.laws.specs.Truth.{and_both}
 use Rattle.laws.specs.Parts.{part}
-use Rattle.laws.specs.Members.{mem-each, replicate-mem, keep_append, keep_all, keep-none, keep-length, keep-full, take-mem, drop-mem}
+use Rattle.laws.specs.Members.{mem_each, replicate_mem, keep_append, keep_all, keep_none, keep_length, keep_full, take_mem, drop_mem}
 
 -- ---- a table and its rows
 
@@ -34,7 +34,7 @@ part-row width table i = rw add-sub_cancel_left refl
 
 pub row-mem : (width : ℕ) (table : List ℕ) (i : ℕ) {w : ℕ} → Mem w (row width table i) → Mem w table
 unfolding row
-row-mem width table i m = drop-mem (i * width) table (take-mem width (drop (i * width) table) m)
+row-mem width table i m = drop_mem (i * width) table (take_mem width (drop (i * width) table) m)
 
 module _ (width : ℕ) (rows : ℕ → List ℕ) where
   -- the rows s, s + 1, .., k of them, one after another
@@ -66,13 +66,13 @@ module _ (width : ℕ) (rows : ℕ → List ℕ) where
       omega arith
 
 module _ (n width : ℕ) (rows : ℕ → List ℕ) (wide : (i : ℕ) → i < n → length (rows i) ≡ width) where
-  pub table-length : length (table_of n rows) ≡ n * width
+  pub table_length : length (table_of n rows) ≡ n * width
   unfolding table_of upto
-  table-length = run_length width rows n 0 (λ i lo hi. wide i (omega arith))
+  table_length = run_length width rows n 0 (λ i lo hi. wide i (omega arith))
 
-  pub row-tableOf : (i : ℕ) → i < n → row width (table_of n rows) i ≡ rows i
+  pub row_table_of : (i : ℕ) → i < n → row width (table_of n rows) i ≡ rows i
   unfolding row table_of upto
-  row-tableOf i h = run_row width rows n 0 i (λ j lo hi. wide j (omega arith)) h ∙ ap rows (zero-add i)
+  row_table_of i h = run_row width rows n 0 i (λ j lo hi. wide j (omega arith)) h ∙ ap rows (zero-add i)
 
 rows_of : (width : ℕ) (t : List ℕ) (k s : ℕ) → joined (map (row width t) (run s k)) ≡ take (k * width) (drop (s * width) t)
 unfolding joined run row
@@ -83,15 +83,15 @@ rows_of width t (suc k) s =
     ap (λ (l : List ℕ). row width t s ++ l) rest ∙ sym (take-add width (k * width) (drop (s * width) t))
     ∙ ap (λ (x : ℕ). take x (drop (s * width) t)) (add_comm width (k * width) ∙ sym (suc-mul k width))
 
-pub tableOf-row : (n width : ℕ) (t : List ℕ) → length t ≡ n * width → table_of n (row width t) ≡ t
+pub table_of_row : (n width : ℕ) (t : List ℕ) → length t ≡ n * width → table_of n (row width t) ≡ t
 unfolding table_of upto
-tableOf-row n width t h = rows_of width t n 0 ∙ rw zero-mul (take_all (n * width) t (le_of_eq h))
+table_of_row n width t h = rows_of width t n 0 ∙ rw zero-mul (take_all (n * width) t (le_of_eq h))
 
 -- ---- how wide a row is
 
-pub slack-wide : (degree : ℕ) → degree ≤ slack degree
+pub slack_wide : (degree : ℕ) → degree ≤ slack degree
 unfolding slack
-slack-wide degree = omega arith
+slack_wide degree = omega arith
 
 pub slack-few : (degree : ℕ) → degree ≤ 64 → slack degree ≤ 84
 unfolding slack
@@ -104,9 +104,9 @@ unfolding padded
 length-padded width xs h = simp (length-append, length-replicate) (omega arith)
 
 -- the word at a place of a padded row
-pub padded-id : (width : ℕ) (xs : List ℕ) (k : ℕ) → k < length xs → get_or (padded width xs) k 0 ≡ get_or xs k 0
+pub padded_id : (width : ℕ) (xs : List ℕ) (k : ℕ) → k < length xs → get_or (padded width xs) k 0 ≡ get_or xs k 0
 unfolding padded
-padded-id width xs k h = get_or-append xs (replicate (width - length xs) pad) 0 k h
+padded_id width xs k h = get_or-append xs (replicate (width - length xs) pad) 0 k h
 
 pub padded-pad : (width : ℕ) (xs : List ℕ) (k : ℕ) → length xs ≤ k → k < width → get_or (padded width xs) k 0 ≡ pad
 unfolding padded
@@ -115,29 +115,29 @@ padded-pad width xs k h l =
     ap (λ (j : ℕ). get_or (xs ++ replicate (width - length xs) pad) j 0) past
     ∙ get_or-append-add xs (replicate (width - length xs) pad) (k - length xs) 0 ∙ get_or-replicate (width - length xs) (k - length xs) pad 0 (omega arith)
 
-pub only-pad : (ws : List ℕ) → onlyPad ws ≡ true → ws ≡ replicate (length ws) pad
-unfolding onlyPad each
-only-pad [] t = refl
-only-pad (w ∷ ws) t =
+pub only_pad_lem : (ws : List ℕ) → only_pad ws ≡ true → ws ≡ replicate (length ws) pad
+unfolding only_pad each
+only_pad_lem [] t = refl
+only_pad_lem (w ∷ ws) t =
     let b = and_both (eqb w pad) (each (λ v. eqb v pad) ws) t in
-    ap₂ (λ (x : ℕ) (l : List ℕ). x ∷ l) (eqb-true w pad b.0) (only-pad ws b.1)
+    ap₂ (λ (x : ℕ) (l : List ℕ). x ∷ l) (eqb-true w pad b.0) (only_pad_lem ws b.1)
 
-pub pad-only : (k : ℕ) → onlyPad (replicate k pad) ≡ true
-unfolding onlyPad
-pad-only k = mem-each (λ v. eqb v pad) (replicate k pad) (λ x m. eq-eqb x pad (replicate-mem k pad m))
+pub pad_only : (k : ℕ) → only_pad (replicate k pad) ≡ true
+unfolding only_pad
+pad_only k = mem_each (λ v. eqb v pad) (replicate k pad) (λ x m. eq-eqb x pad (replicate_mem k pad m))
 
 -- an id in front, padding in front
 pub ids-first : (w : ℕ) (ws : List ℕ) → (w ≡ pad → ⊥) → ids (w ∷ ws) ≡ w ∷ ids ws
 unfolding ids keep
 ids-first w ws h = rw (ne_eqb w pad h) refl
 
-pub ids-skip : (w : ℕ) (ws : List ℕ) → w ≡ pad → ids (w ∷ ws) ≡ ids ws
+pub ids_skip : (w : ℕ) (ws : List ℕ) → w ≡ pad → ids (w ∷ ws) ≡ ids ws
 unfolding ids keep
-ids-skip w ws h = rw (eq-eqb w pad h) refl
+ids_skip w ws h = rw (eq-eqb w pad h) refl
 
-pub no-ids : (k : ℕ) → ids (replicate k pad) ≡ []
+pub no_ids : (k : ℕ) → ids (replicate k pad) ≡ []
 unfolding ids
-no-ids k = keep-none (λ w. not (eqb w pad)) (replicate k pad) (λ x m. ap not (eq-eqb x pad (replicate-mem k pad m)))
+no_ids k = keep_none (λ w. not (eqb w pad)) (replicate k pad) (λ x m. ap not (eq-eqb x pad (replicate_mem k pad m)))
 
 pub ids-append : (xs ys : List ℕ) → ids (xs ++ ys) ≡ ids xs ++ ids ys
 unfolding ids
@@ -145,7 +145,7 @@ ids-append xs ys = keep_append (λ w. not (eqb w pad)) xs ys
 
 -- padding has no ids
 pub ids-pad : (xs : List ℕ) (k : ℕ) → ids (xs ++ replicate k pad) ≡ ids xs
-ids-pad xs k = ids-append xs (replicate k pad) ∙ ap (λ (l : List ℕ). ids xs ++ l) (no-ids k) ∙ append-nil (ids xs)
+ids-pad xs k = ids-append xs (replicate k pad) ∙ ap (λ (l : List ℕ). ids xs ++ l) (no_ids k) ∙ append-nil (ids xs)
 
 pub ids-of : (xs : List ℕ) (k : ℕ) → ((x : ℕ) → Mem x xs → ¬ (x ≡ pad)) → ids (xs ++ replicate k pad) ≡ xs
 unfolding ids
@@ -157,18 +157,18 @@ ids-padded width xs f = ids-of xs (width - length xs) f
 
 pub ids-few : (words : List ℕ) → length (ids words) ≤ length words
 unfolding ids
-ids-few words = keep-length (λ w. not (eqb w pad)) words
+ids-few words = keep_length (λ w. not (eqb w pad)) words
 
 -- words whose ids come first are those ids and then padding
-pub ids-split : (words : List ℕ) → idsFirst words ≡ true → words ≡ ids words ++ replicate (length words - length (ids words)) pad
-unfolding idsFirst ids
-ids-split words t =
+pub ids_split : (words : List ℕ) → ids_first words ≡ true → words ≡ ids words ++ replicate (length words - length (ids words)) pad
+unfolding ids_first ids
+ids_split words t =
     let p : ℕ → Bool = λ w. not (eqb w pad) in
     let k = length (keep p words) in
-    let few : k ≤ length words = keep-length p words in
-    let rest : drop k words ≡ replicate (length words - k) pad = only-pad (drop k words) t ∙ ap (λ (j : ℕ). replicate j pad) (length-drop k words) in
+    let few : k ≤ length words = keep_length p words in
+    let rest : drop k words ≡ replicate (length words - k) pad = only_pad_lem (drop k words) t ∙ ap (λ (j : ℕ). replicate j pad) (length-drop k words) in
     let front : keep p words ≡ keep p (take k words) =
     ap (keep p) (sym (take-append-drop k words) ∙ ap (λ (l : List ℕ). take k words ++ l) rest) ∙ ids-pad (take k words) (length words - k) in
-    let full : keep p words ≡ take k words = front ∙ keep-full p (take k words)
+    let full : keep p words ≡ take k words = front ∙ keep_full p (take k words)
     (sym (ap (λ (l : List ℕ). length l) front) ∙ sym (length-take-le k words few)) in
     sym (take-append-drop k words) ∙ ap₂ (λ (a b : List ℕ). a ++ b) (sym full) rest

@@ -26,35 +26,35 @@ pub and_both : (a b : Bool) → (a && b) ≡ true → (a ≡ true) × (b ≡ tru
 and_both true b e = (refl, e)
 and_both false b e = absurd (false≢true e)
 
-pub both-and : (a b : Bool) → a ≡ true → b ≡ true → (a && b) ≡ true
-both-and true b p q = q
-both-and false b p q = p
+pub both_and : (a b : Bool) → a ≡ true → b ≡ true → (a && b) ≡ true
+both_and true b p q = q
+both_and false b p q = p
 
-pub or-either : (a b : Bool) → (a || b) ≡ true → (a ≡ true) ⊎ (b ≡ true)
-or-either true b e = inl refl
-or-either false b e = inr e
+pub or_either : (a b : Bool) → (a || b) ≡ true → (a ≡ true) ⊎ (b ≡ true)
+or_either true b e = inl refl
+or_either false b e = inr e
 
-pub either-or : (a b : Bool) → (a ≡ true) ⊎ (b ≡ true) → (a || b) ≡ true
-either-or true b h = refl
-either-or false b (inl e) = absurd (false≢true e)
-either-or false b (inr e) = e
+pub either_or : (a b : Bool) → (a ≡ true) ⊎ (b ≡ true) → (a || b) ≡ true
+either_or true b h = refl
+either_or false b (inl e) = absurd (false≢true e)
+either_or false b (inr e) = e
 
-pub or-neither : (a b : Bool) → (a || b) ≡ false → (a ≡ false) × (b ≡ false)
-or-neither true b e = absurd (true≢false e)
-or-neither false b e = (refl, e)
+pub or_neither : (a b : Bool) → (a || b) ≡ false → (a ≡ false) × (b ≡ false)
+or_neither true b e = absurd (true≢false e)
+or_neither false b e = (refl, e)
 
-pub neither-or : (a b : Bool) → a ≡ false → b ≡ false → (a || b) ≡ false
-neither-or true b p q = p
-neither-or false b p q = q
+pub neither_or : (a b : Bool) → a ≡ false → b ≡ false → (a || b) ≡ false
+neither_or true b p q = p
+neither_or false b p q = q
 
 pub is_false : (b : Bool) → ¬ (b ≡ true) → b ≡ false
 is_false true n = absurd (n refl)
 is_false false n = refl
 
-pub is-not : (b : Bool) → b ≡ false → not b ≡ true
-is-not true e = absurd (true≢false e)
-is-not false e = refl
+pub is_not : (b : Bool) → b ≡ false → not b ≡ true
+is_not true e = absurd (true≢false e)
+is_not false e = refl
 
 -- a test that fails does not hold
-pub not-both : {b : Bool} → b ≡ false → ¬ (b ≡ true)
-not-both p q = true≢false (sym q ∙ p)
+pub not_both : {b : Bool} → b ≡ false → ¬ (b ≡ true)
+not_both p q = true≢false (sym q ∙ p)

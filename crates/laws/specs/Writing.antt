@@ -31,9 +31,9 @@ module _ {A : Type 0} where
       }
 
   -- a part
-  pub put-part : (w o out ys : List A) (a e : ℕ) (rest : List A) → a ≤ e → e ≤ length out → length ys ≡ e - a → Writing w o out a (ys ++ rest)
+  pub put_part : (w o out ys : List A) (a e : ℕ) (rest : List A) → a ≤ e → e ≤ length out → length ys ≡ e - a → Writing w o out a (ys ++ rest)
       → Writing w o (put_mid a (e - a) out ys) e rest
-  put-part w o out ys a e rest le fits len s =
+  put_part w o out ys a e rest le fits len s =
       let ta : length (take a out) ≡ a = length-take-le a out (omega arith) in
       let tl : length (take a out ++ ys) ≡ e = length-append (take a out) ys ∙ omega arith in
       record {
@@ -54,8 +54,8 @@ module _ {A : Type 0} where
       (λ (m : ℕ). w ++ drop m o) (sym n)
 
   -- where nothing is left beyond, it is the whole
-  pub all-ends : (w o out : List A) (j : ℕ) → length out ≤ j → Writing w o out j [] → out ≡ w
-  all-ends w o out j h s = sym (take_all j out h) ∙ sym (append-nil (take j out)) ∙ s.whole
+  pub all_ends : (w o out : List A) (j : ℕ) → length out ≤ j → Writing w o out j [] → out ≡ w
+  all_ends w o out j h s = sym (take_all j out h) ∙ sym (append-nil (take j out)) ∙ s.whole
 
   -- a turn of a loop that copies s over the front
   pub copy_step : (d : A) (s old : List A) (i : ℕ) → i < length s → i < length old
@@ -69,10 +69,10 @@ module _ {A : Type 0} where
 
   -- ---- what was written over the front of a list
 
-  pub over-front : (w o : List A) (k : ℕ) → length w ≡ k → take k (over w o) ≡ w
+  pub over_front : (w o : List A) (k : ℕ) → length w ≡ k → take k (over w o) ≡ w
   unfolding over
-  over-front w o k e = take_at w (drop (length w) o) k e
+  over_front w o k e = take_at w (drop (length w) o) k e
 
-  pub over-all : (w o : List A) → length w ≡ length o → over w o ≡ w
+  pub over_all : (w o : List A) → length w ≡ length o → over w o ≡ w
   unfolding over
-  over-all w o e = ap (λ (m : ℕ). w ++ drop m o) e ∙ ap (λ (z : List A). w ++ z) (drop-length o) ∙ append-nil w
+  over_all w o e = ap (λ (m : ℕ). w ++ drop m o) e ∙ ap (λ (z : List A). w ++ z) (drop-length o) ∙ append-nil w

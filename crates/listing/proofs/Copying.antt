@@ -12,7 +12,7 @@ use Rattle.listing.specs.Listed.{Pairs, pairs, Listed, ListedTo}
 use Rattle.listing.specs.Runs.{RunListed}
 
 pub listed-none : (answers : List Item) (before : Pairs) → ListedTo 0 answers before before
-listed-none answers before = record { ids-size = refl; dists-size = refl; ids-are = refl; dists-are = refl }
+listed-none answers before = record { ids_size = refl; dists_size = refl; ids_are = refl; dists_are = refl }
 
 pub listed_at : {i m : ℕ} {answers : List Item} {before now : Pairs} → i ≡ m → ListedTo i answers before now → ListedTo m answers before now
 listed_at {answers = answers} {before} {now} e l = subst (λ (k : ℕ). ListedTo k answers before now) e l
@@ -39,17 +39,17 @@ module _ (answers : List Item) (before now : Pairs) (i : ℕ) (l : ListedTo i an
       → ListedTo (i + 1) answers before (pairs (set now.ids i id) (set now.dists i dist))
   listed_more id dist h p q e f =
       record {
-        ids-size = length-set now.ids i id ∙ l.ids-size;
-        dists-size = length-set now.dists i dist ∙ l.dists-size;
-        ids-are = next (λ c. c.id) answers before.ids now.ids i id h p e l.ids-are;
-        dists-are = next (λ c. whole c.dist) answers before.dists now.dists i dist h q f l.dists-are;
+        ids_size = length-set now.ids i id ∙ l.ids_size;
+        dists_size = length-set now.dists i dist ∙ l.dists_size;
+        ids_are = next (λ c. c.id) answers before.ids now.ids i id h p e l.ids_are;
+        dists_are = next (λ c. whole c.dist) answers before.dists now.dists i dist h q f l.dists_are;
       }
 
-  pub listed-all : length answers ≡ i → Listed answers before now
-  listed-all e =
+  pub listed_all : length answers ≡ i → Listed answers before now
+  listed_all e =
       record {
-        ids-are = l.ids-are ∙ over_first (λ c. c.id) answers before.ids i e;
-        dists-are = l.dists-are ∙ over_first (λ c. whole c.dist) answers before.dists i e;
+        ids_are = l.ids_are ∙ over_first (λ c. c.id) answers before.ids i e;
+        dists_are = l.dists_are ∙ over_first (λ c. whole c.dist) answers before.dists i e;
       }
 
 -- ---- a run, from its end back

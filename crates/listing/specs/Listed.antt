@@ -23,21 +23,21 @@ abbrev pub LowIds : List ℕ → ℕ → ℕ → Type 0
 LowIds keys count n = (i : ℕ) → i < count → id_of (slice_index keys i) < n
 
 -- what a key holds whose id counts from the last of n entries back: such keys rise with falling ids
-abbrev pub mirroredItem : ℕ → ℕ → Item
-mirroredItem n key = item (dist_of key) (n - 1 - id_of key)
+abbrev pub mirrored_item : ℕ → ℕ → Item
+mirrored_item n key = item (dist_of key) (n - 1 - id_of key)
 
 -- the distances of items, as answers give them
-abbrev pub distsOf : List Item → List Float
-distsOf l = map (λ (c : Item). whole c.dist) l
+abbrev pub dists_of : List Item → List Float
+dists_of l = map (λ (c : Item). whole c.dist) l
 
 -- the answers, over the front of the outputs
 pub record Listed (answers : List Item) (before after : Pairs) : Type 0 where
-  pub ids-are : after.ids ≡ over (ids_of answers) before.ids
-  pub dists-are : after.dists ≡ over (distsOf answers) before.dists
+  pub ids_are : after.ids ≡ over (ids_of answers) before.ids
+  pub dists_are : after.dists ≡ over (dists_of answers) before.dists
 
 -- i of the answers are listed so far
 pub record ListedTo (i : ℕ) (answers : List Item) (before now : Pairs) : Type 0 where
-  pub ids-size : length now.ids ≡ length before.ids
-  pub dists-size : length now.dists ≡ length before.dists
-  pub ids-are : now.ids ≡ take i (ids_of answers) ++ drop i before.ids
-  pub dists-are : now.dists ≡ take i (distsOf answers) ++ drop i before.dists
+  pub ids_size : length now.ids ≡ length before.ids
+  pub dists_size : length now.dists ≡ length before.dists
+  pub ids_are : now.ids ≡ take i (ids_of answers) ++ drop i before.ids
+  pub dists_are : now.dists ≡ take i (dists_of answers) ++ drop i before.dists

@@ -4,7 +4,7 @@
 ghost use Rattle.std.specs.Prelude.{◌<◌, ◌≤◌, map, length, take};
 ghost use Rattle.definition.specs.Search.{ranked};
 ghost use Rattle.beam.specs.Keys.{Rising};
-ghost use Rattle.listing.specs.Listed.{pairs, items_in, LowIds, mirroredItem, Listed};
+ghost use Rattle.listing.specs.Listed.{pairs, items_in, LowIds, mirrored_item, Listed};
 ghost use Rattle.listing.specs.Runs.{RunEnd, RunListed};
 
 // The end of the run of equal distances that begins at `first`.
@@ -61,7 +61,7 @@ pub fn list_mirrored(keys: &[u64], n: usize, count: usize, ids: &mut [u32], dist
     requires n_nonzero { (0 < n) × (n ≤ 65536) }
     requires count_in_bounds { (count ≤ length keys.now) × (count ≤ length ids.old) × (count ≤ length dists.old) }
     requires low_ids { LowIds keys.now count n }
-    ensures { Listed (map (mirroredItem n) (take count keys.now))
+    ensures { Listed (map (mirrored_item n) (take count keys.now))
         (pairs ids.old dists.old) (pairs ids.new dists.new) }
 {
     let last = (n - 1) as u32;

@@ -5,42 +5,42 @@ use Rattle.std.proofs.Common.{sym, ap, ◌∙◌, arith, eq-eqb, ne_eqb}
 use Rattle.std.proofs.Math.Bool.{true, false, cond}
 use mathlib.Core.List.{List, [], ◌∷◌, ◌++◌, append-nil}
 use Rattle.std.proofs.Math.Seq.{append_snoc}
-use Rattle.definition.specs.Lists.{isIn}
+use Rattle.definition.specs.Lists.{is_in}
 use Rattle.definition.specs.Tables.{pad}
 use Rattle.marks.specs.Marked.{news}
 
 -- ---- one word
 module _ (l : List ℕ) (x : ℕ) where
-  pub news-pad : x ≡ pad → news l (x ∷ []) ≡ []
+  pub news_pad : x ≡ pad → news l (x ∷ []) ≡ []
   unfolding news
-  news-pad e = rw (eq-eqb x pad e) refl
+  news_pad e = rw (eq-eqb x pad e) refl
 
-  pub news-old : isIn x l ≡ true → news l (x ∷ []) ≡ []
+  pub news_old : is_in x l ≡ true → news l (x ∷ []) ≡ []
   unfolding news
-  news-old e = rw e (go (eqb x pad))
+  news_old e = rw e (go (eqb x pad))
     where
       go : (t : Bool) → cond (t || true) [] (x ∷ []) ≡ []
       go true = refl
       go false = refl
 
-  pub news-new : (x ≡ pad → ⊥) → isIn x l ≡ false → news l (x ∷ []) ≡ x ∷ []
+  pub news_new : (x ≡ pad → ⊥) → is_in x l ≡ false → news l (x ∷ []) ≡ x ∷ []
   unfolding news
-  news-new real e = rw (ne_eqb x pad real, e) refl
+  news_new real e = rw (ne_eqb x pad real, e) refl
 
 -- an id is no padding
-pub id-real : (n x : ℕ) → n ≤ 65536 → x < n → x ≡ pad → ⊥
+pub id_real : (n x : ℕ) → n ≤ 65536 → x < n → x ≡ pad → ⊥
 unfolding pad
-id-real n x h k e = omega arith
+id_real n x h k e = omega arith
 
 pub news-one : (x : ℕ) → (x ≡ pad → ⊥) → news [] (x ∷ []) ≡ x ∷ []
-unfolding isIn
-news-one x real = news-new [] x real refl
+unfolding is_in
+news-one x real = news_new [] x real refl
 
 -- ---- one piece after another
-pub news-more : (l a b : List ℕ) → news l (a ++ b) ≡ news l a ++ news (l ++ news l a) b
+pub news_more : (l a b : List ℕ) → news l (a ++ b) ≡ news l a ++ news (l ++ news l a) b
 unfolding news
-news-more l [] b = ap (λ (z : List ℕ). news z b) (sym (append-nil l))
-news-more l (w ∷ ws) b = go (eqb w pad || isIn w l) (news-more l ws b) (news-more (l ++ (w ∷ [])) ws b)
+news_more l [] b = ap (λ (z : List ℕ). news z b) (sym (append-nil l))
+news_more l (w ∷ ws) b = go (eqb w pad || is_in w l) (news_more l ws b) (news_more (l ++ (w ∷ [])) ws b)
   where
     go : (t : Bool) → news l (ws ++ b) ≡ news l ws ++ news (l ++ news l ws) b
         → news (l ++ (w ∷ [])) (ws ++ b) ≡ news (l ++ (w ∷ [])) ws ++ news ((l ++ (w ∷ [])) ++ news (l ++ (w ∷ [])) ws) b

@@ -2,8 +2,8 @@
 // the epoch in every walk, so that no word of a row needs a test of its own (crate scratch says where all lies).
 
 ghost use Rattle.std.specs.Prelude.{◌≡◌, ◌+◌, ◌≤◌, ◌<◌, length};
-ghost use Rattle.theory.specs.build.Walks.{epochEnd};
-ghost use Rattle.marks.specs.Marked.{Marked, FirstEpoch, mark_of, newOf, Notes, Gathers};
+ghost use Rattle.theory.specs.build.Walks.{epoch_end};
+ghost use Rattle.marks.specs.Marked.{Marked, FirstEpoch, mark_of, new_of, Notes, Gathers};
 
 // A call begins with zero marks and epoch 1.
 pub fn first_epoch(words: &mut [u32], n: usize) -> u32
@@ -16,7 +16,7 @@ pub fn first_epoch(words: &mut [u32], n: usize) -> u32
 
 // The epoch of the next walk: one more, and so above every mark. No call makes so many walks that it comes near the last (theory, Walks).
 pub fn next_epoch(epoch: u32) -> u32
-    requires { epoch + 1 < epochEnd }
+    requires { epoch + 1 < epoch_end }
     ensures { result ≡ epoch + 1 }
 {
     epoch + 1
@@ -31,7 +31,7 @@ fn mark_of(n: u32, word: u32) -> u32
 
 // 0 if a mark is the epoch, else 1: a number, so that nothing branches on it.
 fn is_new(mark: u32, epoch: u32) -> usize
-    ensures { (result ≡ newOf mark epoch) × (result ≤ 1) }
+    ensures { (result ≡ new_of mark epoch) × (result ≤ 1) }
 {
     if mark == epoch { 0 } else { 1 }
 }

@@ -8,21 +8,21 @@ use Rattle.std.specs.Float.{binary32}
 use Rattle.std.specs.Float.Ieee.{add, lt}
 use Rattle.definition.specs.Metric.{whole}
 use Rattle.definition.specs.Floats.{nought}
-use Rattle.definition.specs.Medoid.{scoreFrom, score, challenge, leader, medoid}
+use Rattle.definition.specs.Medoid.{score_from, score, challenge, leader, medoid}
 
 -- ---- score
 pub score-turn : (pair : ℕ → ℕ → ℕ) (pivots : List ℕ) (i j : ℕ) (total : Float) (d : ℕ) → j < length pivots → d ≡ pair i (get_or pivots j 0)
-    → scoreFrom (pair i) total (drop j pivots) ≡ score pair pivots i
-    → scoreFrom (pair i) (add binary32 total (whole d)) (drop (j + 1) pivots) ≡ score pair pivots i
-unfolding scoreFrom
+    → score_from (pair i) total (drop j pivots) ≡ score pair pivots i
+    → score_from (pair i) (add binary32 total (whole d)) (drop (j + 1) pivots) ≡ score pair pivots i
+unfolding score_from
 score-turn pair pivots i j total d l e h = sym (rw (drop-cons pivots j 0 l, add-one j, e) refl) ∙ h
 
-pub score-end : (pair : ℕ → ℕ → ℕ) (pivots : List ℕ) (i j : ℕ) (total : Float) → length pivots ≤ j
-    → scoreFrom (pair i) total (drop j pivots) ≡ score pair pivots i → total ≡ score pair pivots i
-unfolding scoreFrom
-score-end pair pivots i j total l h = sym (rw (drop_of_length-le pivots l) refl) ∙ h
+pub score_end : (pair : ℕ → ℕ → ℕ) (pivots : List ℕ) (i j : ℕ) (total : Float) → length pivots ≤ j
+    → score_from (pair i) total (drop j pivots) ≡ score pair pivots i → total ≡ score pair pivots i
+unfolding score_from
+score_end pair pivots i j total l h = sym (rw (drop_of_length-le pivots l) refl) ∙ h
 
-pub score-start : (pair : ℕ → ℕ → ℕ) (pivots : List ℕ) (i : ℕ) → scoreFrom (pair i) nought pivots ≡ score pair pivots i
+pub score-start : (pair : ℕ → ℕ → ℕ) (pivots : List ℕ) (i : ℕ) → score_from (pair i) nought pivots ≡ score pair pivots i
 unfolding score
 score-start pair pivots i = refl
 
@@ -32,9 +32,9 @@ pub record Leading (scores : ℕ → Float) (m n id : ℕ) (least : Float) (i : 
   pub leads : (leader scores (record { id = id; total = least }) i (n - i)).id ≡ m
 
 module _ (pair : ℕ → ℕ → ℕ) (pivots : List ℕ) (n : ℕ) where
-  pub lead-start : (s : Float) → 0 < n → s ≡ score pair pivots 0 → Leading (score pair pivots) (medoid pair pivots n) n 0 s 1
+  pub lead_start : (s : Float) → 0 < n → s ≡ score pair pivots 0 → Leading (score pair pivots) (medoid pair pivots n) n 0 s 1
   unfolding medoid
-  lead-start s h e = record { inside = h; leads = go n h }
+  lead_start s h e = record { inside = h; leads = go n h }
     where
       go : (k : ℕ) → 0 < k → (leader (score pair pivots) (record { id = 0; total = s }) 1 (k - 1)).id ≡ medoid pair pivots k
       go zero l = absurd (omega arith)
@@ -59,14 +59,14 @@ module _ (scores : ℕ → Float) (m n id : ℕ) (least : Float) (i : ℕ) (s : 
   goes_on less t =
       ap (λ (b : Bool). (leader scores (cond b (record { id = i; total = s }) (record { id = id; total = least })) (i + 1) (n - (i + 1))).id) (sym t) ∙ next
 
-  pub lead-taken : lt s least ≡ true → Leading scores m n i s (i + 1)
-  lead-taken t = record { inside = h; leads = goes_on true t }
+  pub lead_taken : lt s least ≡ true → Leading scores m n i s (i + 1)
+  lead_taken t = record { inside = h; leads = goes_on true t }
 
-  pub lead-kept : lt s least ≡ false → Leading scores m n id least (i + 1)
-  lead-kept t = record { inside = l.inside; leads = goes_on false t }
+  pub lead_kept : lt s least ≡ false → Leading scores m n id least (i + 1)
+  lead_kept t = record { inside = l.inside; leads = goes_on false t }
 
-pub lead-end : (scores : ℕ → Float) (m n id : ℕ) (least : Float) (i : ℕ) → n ≤ i → Leading scores m n id least i → id ≡ m
+pub lead_end : (scores : ℕ → Float) (m n id : ℕ) (least : Float) (i : ℕ) → n ≤ i → Leading scores m n id least i → id ≡ m
 unfolding leader
-lead-end scores m n id least i h l =
+lead_end scores m n id least i h l =
     let q : n - i ≡ 0 = omega arith in
     subst (λ (z : ℕ). (leader scores (record { id = id; total = least }) i z).id ≡ m) q l.leads

@@ -3,7 +3,7 @@
 ghost use Rattle.std.specs.Prelude.{◌≡◌, ℕ, ◌*◌, ◌≤◌, ◌<◌, length, get_or};
 ghost use Rattle.definition.specs.Metric.{between};
 ghost use Rattle.definition.specs.Medoid.{score, medoid};
-ghost use Rattle.definition.specs.Outcome.{medoidOut};
+ghost use Rattle.definition.specs.Outcome.{medoid_out};
 
 use definition::Answer;
 
@@ -43,7 +43,7 @@ fn leader(n: usize, dim: usize, vectors: &[u8], pivots: &[u32]) -> usize
 
 // The medoid's id, or the number of the refusal.
 pub fn medoid(n: usize, dim: usize, vectors: &[u8], pivots: &[u32]) -> Answer
-    ensures { result ≡ medoidOut (record { n = n; dim = dim; vectors = vectors.now; pivots = pivots.now }) }
+    ensures { result ≡ medoid_out (record { n = n; dim = dim; vectors = vectors.now; pivots = pivots.now }) }
 {
     let number = checks_number::medoid_number(n, dim, vectors, pivots);
     if number != 0 {

@@ -19,12 +19,12 @@ pub record Measured (d : ℕ → ℕ) (ids dists : List ℕ) (j : ℕ) : Type 0 
   pub small : (i : ℕ) → i < j → d (get_or ids i 0) ≤ farthest
 
 module _ (d : ℕ → ℕ) (ids dists : List ℕ) where
-  pub measured-none : length ids ≡ length dists → Measured d ids dists 0
-  measured-none e = record { within = omega arith; size = sym e; are = refl; small = λ i h. absurd (omega arith) }
+  pub measured_none : length ids ≡ length dists → Measured d ids dists 0
+  measured_none e = record { within = omega arith; size = sym e; are = refl; small = λ i h. absurd (omega arith) }
 
   module _ (j : ℕ) (m : Measured d ids dists j) where
-    pub measured-more : j < length ids → (r : ℕ) → Exact (d (get_or ids j 0)) r → Measured d ids (set dists j r) (j + 1)
-    measured-more h r x =
+    pub measured_more : j < length ids → (r : ℕ) → Exact (d (get_or ids j 0)) r → Measured d ids (set dists j r) (j + 1)
+    measured_more h r x =
         record {
           within = omega arith;
           size = length-set dists j r ∙ m.size;
@@ -35,8 +35,8 @@ module _ (d : ℕ → ℕ) (ids dists : List ℕ) where
           small = below_more (λ (i : ℕ). d (get_or ids i 0) ≤ farthest) j m.small x.small;
         }
 
-    pub measured-all : length ids ≤ j → Distances d ids dists
-    measured-all h =
+    pub measured_all : length ids ≤ j → Distances d ids dists
+    measured_all h =
         record {
           are = sym (take_all j dists (omega (arith, m.size))) ∙ m.are ∙ ap (map d) (take_all j ids h);
           small = λ i k. m.small i (omega arith);

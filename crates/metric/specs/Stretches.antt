@@ -4,7 +4,7 @@ use Rattle.std.proofs.Common.{sym, ◌∙◌, subst, le_refl, add-zero, zero-add
 use Rattle.definition.specs.Lists.{total}
 use Rattle.definition.specs.Metric.{squared, summed, metric}
 use Rattle.whole.specs.Whole.{farthest}
-use Rattle.theory.specs.Metric.{Bytes, bytes_drop, good-most, byte-metric}
+use Rattle.theory.specs.Metric.{Bytes, bytes_drop, good_most, byte_metric}
 
 -- the samples from `from` up to `to`, in two vectors of one length
 pub record Stretch (a b : List ℕ) (from to : ℕ) : Type 0 where
@@ -23,11 +23,11 @@ pub record Sixteen (a b : List ℕ) (at d : ℕ) (sums : List ℕ) : Type 0 wher
   pub is : total sums + metric (drop at a) (drop at b) ≡ d
 
 -- ---- sums: one that grows, none more than all, those from a place on
-pub total-more : (sums : List ℕ) (j x : ℕ) → j < length sums → total (set sums j (get_or sums j 0 + x)) ≡ total sums + x
+pub total_more : (sums : List ℕ) (j x : ℕ) → j < length sums → total (set sums j (get_or sums j 0 + x)) ≡ total sums + x
 unfolding total
-total-more [] j x h = absurd (omega arith)
-total-more (s ∷ sums) zero x h = omega arith
-total-more (s ∷ sums) (suc j) x h = let k = total-more sums j x (omega arith) in omega arith
+total_more [] j x h = absurd (omega arith)
+total_more (s ∷ sums) zero x h = omega arith
+total_more (s ∷ sums) (suc j) x h = let k = total_more sums j x (omega arith) in omega arith
 
 pub sum-total : (sums : List ℕ) (j : ℕ) → get_or sums j 0 ≤ total sums
 unfolding total
@@ -35,13 +35,13 @@ sum-total [] j = omega arith
 sum-total (s ∷ sums) zero = omega arith
 sum-total (s ∷ sums) (suc j) = let k = sum-total sums j in omega arith
 
-pub total-from : (sums : List ℕ) (j : ℕ) → j < length sums → get_or sums j 0 + total (drop (j + 1) sums) ≡ total (drop j sums)
+pub total_from : (sums : List ℕ) (j : ℕ) → j < length sums → get_or sums j 0 + total (drop (j + 1) sums) ≡ total (drop j sums)
 unfolding total
-total-from sums j h = rw (add-one j, drop-cons sums j 0 h)
+total_from sums j h = rw (add-one j, drop-cons sums j 0 h)
 
-pub total-end : (sums : List ℕ) (j : ℕ) → length sums ≤ j → total (drop j sums) ≡ 0
+pub total_end : (sums : List ℕ) (j : ℕ) → length sums ≤ j → total (drop j sums) ≡ 0
 unfolding total
-total-end sums j h = rw (drop_of_length-le sums h)
+total_end sums j h = rw (drop_of_length-le sums h)
 
 -- ---- stretches of two vectors: an empty one, one sample, two that meet, and all
 pub adds_none : (a b : List ℕ) (i : ℕ) → Adds a b i i 0
@@ -51,34 +51,34 @@ pub adds_one : (a b : List ℕ) (i : ℕ) → length a ≡ length b → i < leng
 unfolding metric summed
 adds_one a b i l h = record { is = rw (add-one i, drop-cons a i 0 h, drop-cons b i 0 (omega arith)) }
 
-pub adds-join : (a b : List ℕ) (from m to r s : ℕ) → Adds a b from m r → Adds a b m to s → Adds a b from to (r + s)
-adds-join a b from m to r s p q = record { is = omega (arith, p.is, q.is) }
+pub adds_join : (a b : List ℕ) (from m to r s : ℕ) → Adds a b from m r → Adds a b m to s → Adds a b from to (r + s)
+adds_join a b from m to r s p q = record { is = omega (arith, p.is, q.is) }
 
-pub adds-all : (a b : List ℕ) (r : ℕ) → Adds a b 0 (length a) r → r ≡ metric a b
+pub adds_all : (a b : List ℕ) (r : ℕ) → Adds a b 0 (length a) r → r ≡ metric a b
 unfolding metric summed
-adds-all a b r p = sym (add-zero r) ∙ subst (λ (l : List ℕ). r + metric l (drop (length a) b) ≡ metric a b) (drop_of_length-le a (le_refl (length a))) p.is
+adds_all a b r p = sym (add-zero r) ∙ subst (λ (l : List ℕ). r + metric l (drop (length a) b) ≡ metric a b) (drop_of_length-le a (le_refl (length a))) p.is
 
 -- what the samples from a place on add is small, and so is any part of it
-pub from-small : (a b : List ℕ) (from : ℕ) → Bytes a → Bytes b → length a ≤ 256 → metric (drop from a) (drop from b) ≤ farthest
-from-small a b from p q h =
+pub from_small : (a b : List ℕ) (from : ℕ) → Bytes a → Bytes b → length a ≤ 256 → metric (drop from a) (drop from b) ≤ farthest
+from_small a b from p q h =
     let l = length-drop from a in
-    good-most byte-metric (drop from a) (drop from b) (omega arith) (bytes_drop from a p) (bytes_drop from b q)
+    good_most byte_metric (drop from a) (drop from b) (omega arith) (bytes_drop from a p) (bytes_drop from b q)
 
-pub adds-small : (a b : List ℕ) (from to r : ℕ) → Bytes a → Bytes b → length a ≤ 256 → Adds a b from to r → r ≤ farthest
-adds-small a b from to r p q h e = let k = from-small a b from p q h in omega (arith, e.is)
+pub adds_small : (a b : List ℕ) (from to r : ℕ) → Bytes a → Bytes b → length a ≤ 256 → Adds a b from to r → r ≤ farthest
+adds_small a b from to r p q h e = let k = from_small a b from p q h in omega (arith, e.is)
 
 -- ---- sixteen sums: at the start, after a sample more, and at the end
-pub sixteen-none : (a b : List ℕ) (from : ℕ) → Sixteen a b from (metric (drop from a) (drop from b)) (replicate 16 0)
+pub sixteen_none : (a b : List ℕ) (from : ℕ) → Sixteen a b from (metric (drop from a) (drop from b)) (replicate 16 0)
 unfolding total
-sixteen-none a b from = record { sixteen = refl; is = zero-add (metric (drop from a) (drop from b)) }
+sixteen_none a b from = record { sixteen = refl; is = zero-add (metric (drop from a) (drop from b)) }
 
-pub sixteen-more : (a b : List ℕ) (i d : ℕ) (sums : List ℕ) (j x : ℕ) → Sixteen a b i d sums → j < 16 → Adds a b i (i + 1) x
+pub sixteen_more : (a b : List ℕ) (i d : ℕ) (sums : List ℕ) (j x : ℕ) → Sixteen a b i d sums → j < 16 → Adds a b i (i + 1) x
     → Sixteen a b (i + 1) d (set sums j (get_or sums j 0 + x))
-sixteen-more a b i d sums j x e h p =
+sixteen_more a b i d sums j x e h p =
     record {
       sixteen = length-set sums j (get_or sums j 0 + x) ∙ e.sixteen;
-      is = omega (arith, total-more sums j x (omega (arith, e.sixteen)), e.is, p.is);
+      is = omega (arith, total_more sums j x (omega (arith, e.sixteen)), e.is, p.is);
     }
 
-pub sixteen-adds : (a b : List ℕ) (from to : ℕ) (sums : List ℕ) → Sixteen a b to (metric (drop from a) (drop from b)) sums → Adds a b from to (total sums)
-sixteen-adds a b from to sums e = record { is = e.is }
+pub sixteen_adds : (a b : List ℕ) (from to : ℕ) (sums : List ℕ) → Sixteen a b to (metric (drop from a) (drop from b)) sums → Adds a b from to (total sums)
+sixteen_adds a b from to sums e = record { is = e.is }

@@ -2,8 +2,8 @@
 
 ghost use Rattle.std.specs.Prelude.{◌≡◌, cond, ℕ, ◌+◌, ◌-◌, ◌*◌, ◌%◌, ◌<◌, ◌≤◌, min, max, length, get_or, drop};
 ghost use Rattle.definition.specs.Lists.{total};
-ghost use Rattle.definition.specs.Metric.{saturated, squared, metric, fromQuery, between};
-ghost use Rattle.definition.specs.Outcome.{distanceOut};
+ghost use Rattle.definition.specs.Metric.{saturated, squared, metric, from_query, between};
+ghost use Rattle.definition.specs.Outcome.{distance_out};
 ghost use Rattle.whole.specs.Whole.{farthest};
 ghost use Rattle.metric.specs.Exact.{Exact, VectorIn, Distances};
 ghost use Rattle.metric.specs.Stretches.{Stretch, Adds, Sixteen};
@@ -170,7 +170,7 @@ fn summed(a: &[u8], b: &[u8]) -> u32
 
 // The distance of two vectors, or the number of the refusal.
 pub fn distance(a: &[u8], b: &[u8]) -> Answer
-    ensures { result ≡ distanceOut (record { first = a.now; second = b.now }) }
+    ensures { result ≡ distance_out (record { first = a.now; second = b.now }) }
 {
     let dim = a.len();
     if dim == 0 {
@@ -189,7 +189,7 @@ pub fn distance(a: &[u8], b: &[u8]) -> Answer
 pub fn from_query(dim: usize, vectors: &[u8], query: &[u8], i: usize) -> u32
     requires vector_in { VectorIn dim vectors.now i }
     requires query_len { (length query.now ≡ dim) × (dim ≤ 256) }
-    ensures { Exact (fromQuery dim vectors.now query.now i) result }
+    ensures { Exact (from_query dim vectors.now query.now i) result }
 {
     let at = i * dim;
     let end = at + dim;
@@ -201,7 +201,7 @@ pub fn from_query_each(dim: usize, vectors: &[u8], query: &[u8], ids: &[u32], di
     requires by_index { (j : ℕ) → j < length ids.now → VectorIn dim vectors.now (get_or ids.now j 0) }
     requires query_len { (length query.now ≡ dim) × (dim ≤ 256) }
     requires ids_len { length ids.now ≡ length dists.old }
-    ensures { Distances (fromQuery dim vectors.now query.now) ids.now dists.new }
+    ensures { Distances (from_query dim vectors.now query.now) ids.now dists.new }
 {
     let mut k = 0;
     while k < ids.len() {

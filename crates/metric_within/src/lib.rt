@@ -1,7 +1,7 @@
 // Part 1. A distance that is worked out only as far as is needed: where a quarter of the samples alone are too far, the others are not read.
 
 ghost use Rattle.std.specs.Prelude.{◌≡◌, ◌≤◌, length};
-ghost use Rattle.definition.specs.Metric.{metric, fromQuery};
+ghost use Rattle.definition.specs.Metric.{metric, from_query};
 ghost use Rattle.metric.specs.Exact.{VectorIn};
 ghost use Rattle.metric_within.specs.Within.{Within};
 
@@ -23,7 +23,7 @@ fn summed_within(a: &[u8], b: &[u8], most: u32) -> u32
 pub fn from_query_within(dim: usize, vectors: &[u8], query: &[u8], i: usize, most: u32) -> u32
     requires vector_in { VectorIn dim vectors.now i }
     requires query_len { (length query.now ≡ dim) × (dim ≤ 256) }
-    ensures { Within most (fromQuery dim vectors.now query.now i) result }
+    ensures { Within most (from_query dim vectors.now query.now i) result }
 {
     let at = i * dim;
     let end = at + dim;

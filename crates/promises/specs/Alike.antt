@@ -10,18 +10,18 @@ use Rattle.definition.specs.Lists.{cleared}
 use Rattle.definition.specs.Floats.{nought, one}
 use Rattle.definition.specs.Metric.{between}
 use Rattle.definition.specs.Prune.{target_of}
-use Rattle.definition.specs.Batch.{pruneIds, wideRow, wideIds}
-use Rattle.definition.specs.Build.{open', closedIds, close, built}
-use Rattle.definition.specs.Refusals.{BatchCall, CloseCall, BuildCall, batchNumber, closeNumber, buildNumber, badAlpha, buildWords, buildFloats}
-use Rattle.definition.specs.Outcome.{byNumber, setting_of, refused, done, batchKept, batchDone, batchOut, closeKept, closeDone, closeOut, buildKept, builtWide}
-use Rattle.definition.specs.Outcome.{buildDone, buildOut}
-use Rattle.theory.specs.build.Alphas.{below-not-above, target_one, close-alike, batch-alike, batches-alike}
-use Rattle.accepted.specs.Checks.{alpha-one}
+use Rattle.definition.specs.Batch.{prune_ids, wide_row, wide_ids}
+use Rattle.definition.specs.Build.{open', closed_ids, close, built}
+use Rattle.definition.specs.Refusals.{BatchCall, CloseCall, BuildCall, batch_number, close_number, build_number, bad_alpha, build_words, build_floats}
+use Rattle.definition.specs.Outcome.{by_number, setting_of, refused, done, batch_kept, batch_done, batch_out, close_kept, close_done, close_out, build_kept, built_wide}
+use Rattle.definition.specs.Outcome.{build_done, build_out}
+use Rattle.theory.specs.build.Alphas.{below_not_above, target_one, close_alike, batch_alike, batches_alike}
+use Rattle.accepted.specs.Checks.{alpha_one}
 
 -- ---- the same call with other parameters
 
-abbrev pub batchBy : Params → BatchCall → BatchCall
-batchBy p c =
+abbrev pub batch_by : Params → BatchCall → BatchCall
+batch_by p c =
     record {
       n = c.n;
       dim = c.dim;
@@ -35,11 +35,11 @@ batchBy p c =
       floats = c.floats;
     }
 
-abbrev pub closeBy : Params → CloseCall → CloseCall
-closeBy p c = record { n = c.n; dim = c.dim; vectors = c.vectors; params = p; wide = c.wide; closed = c.closed; words = c.words; floats = c.floats }
+abbrev pub close_by : Params → CloseCall → CloseCall
+close_by p c = record { n = c.n; dim = c.dim; vectors = c.vectors; params = p; wide = c.wide; closed = c.closed; words = c.words; floats = c.floats }
 
-abbrev pub buildBy : Params → BuildCall → BuildCall
-buildBy p c =
+abbrev pub build_by : Params → BuildCall → BuildCall
+build_by p c =
     record {
       n = c.n;
       dim = c.dim;
@@ -58,119 +58,119 @@ buildBy p c =
 -- ---- close ignores beam and extra seeds
 
 -- with another beam and another number of extra seeds
-abbrev pub otherSearch : ℕ → ℕ → Params → Params
-otherSearch beam extra p = record { degree = p.degree; beam = beam; alpha = p.alpha; extra = extra }
+abbrev pub other_search : ℕ → ℕ → Params → Params
+other_search beam extra p = record { degree = p.degree; beam = beam; alpha = p.alpha; extra = extra }
 
-pub close-ignores : (c : CloseCall) (beam extra : ℕ) → closeOut c ≡ closeOut (closeBy (otherSearch beam extra c.params) c)
-unfolding closeOut closeKept closeDone closeNumber setting_of close closedIds wideIds wideRow pruneIds
-close-ignores c beam extra = refl
+pub close_ignores : (c : CloseCall) (beam extra : ℕ) → close_out c ≡ close_out (close_by (other_search beam extra c.params) c)
+unfolding close_out close_kept close_done close_number setting_of close closed_ids wide_ids wide_row prune_ids
+close_ignores c beam extra = refl
 
 -- ---- alpha: NaN, or below 1.0
 
 pub data ActsAsOne : Float → Type 0 where
-  not-a-number : ActsAsOne nan
+  not_a_number : ActsAsOne nan
   below_one : {alpha : Float} → lt alpha one ≡ true → ActsAsOne alpha
 
-abbrev pub withAlpha : Float → Params → Params
-withAlpha alpha p = record { degree = p.degree; beam = p.beam; alpha = alpha; extra = p.extra }
+abbrev pub with_alpha : Float → Params → Params
+with_alpha alpha p = record { degree = p.degree; beam = p.beam; alpha = alpha; extra = p.extra }
 
 -- such an alpha is not above 1.0
-acts-low : (alpha : Float) → ActsAsOne alpha → lt one alpha ≡ false
+acts_low : (alpha : Float) → ActsAsOne alpha → lt one alpha ≡ false
 unfolding lt one of_bits
-acts-low alpha not-a-number = refl
-acts-low alpha (below_one h) = below-not-above alpha h
+acts_low alpha not_a_number = refl
+acts_low alpha (below_one h) = below_not_above alpha h
 
 module _ (p : Params) (h : ActsAsOne p.alpha) where
-  not-5 : badAlpha p.alpha ≡ badAlpha one
-  not-5 = alpha-one p.alpha (acts-low p.alpha h)
+  not_5 : bad_alpha p.alpha ≡ bad_alpha one
+  not_5 = alpha_one p.alpha (acts_low p.alpha h)
 
   target : target_of p.alpha ≡ target_of one
-  target = target_one p.alpha (acts-low p.alpha h)
+  target = target_one p.alpha (acts_low p.alpha h)
 
 -- a batch
 
 module _ (c : BatchCall) (h : ActsAsOne c.params.alpha) where
-  abbrev batchOne : BatchCall
-  batchOne = batchBy (withAlpha one c.params) c
+  abbrev batch_one : BatchCall
+  batch_one = batch_by (with_alpha one c.params) c
 
-  batch-number : batchNumber c ≡ batchNumber batchOne
-  unfolding batchNumber
-  batch-number = rw (not-5 c.params h) refl
+  batch_number_lem : batch_number c ≡ batch_number batch_one
+  unfolding batch_number
+  batch_number_lem = rw (not_5 c.params h) refl
 
-  batch-wide : (batchDone c).wide ≡ (batchDone batchOne).wide
-  unfolding batchDone setting_of
-  batch-wide =
-      batch-alike c.n (between c.dim c.vectors) c.params.degree c.params.beam c.params.alpha one (target c.params h) c.start
+  batch_wide : (batch_done c).wide ≡ (batch_done batch_one).wide
+  unfolding batch_done setting_of
+  batch_wide =
+      batch_alike c.n (between c.dim c.vectors) c.params.degree c.params.beam c.params.alpha one (target c.params h) c.start
       c.params.extra c.nodes c.seeds c.wide
 
-  pub batch-alpha-one : batchOut c ≡ batchOut (batchBy (withAlpha one c.params) c)
-  unfolding batchOut batchKept batchDone
-  batch-alpha-one =
-      λ i. byNumber (batch-number i) (record { answer = refused (batch-number i); wide = c.wide; words = c.words; floats = c.floats })
+  pub batch_alpha_one : batch_out c ≡ batch_out (batch_by (with_alpha one c.params) c)
+  unfolding batch_out batch_kept batch_done
+  batch_alpha_one =
+      λ i. by_number (batch_number_lem i) (record { answer = refused (batch_number_lem i); wide = c.wide; words = c.words; floats = c.floats })
       (record {
         answer = done;
-        wide = batch-wide i;
-        words = cleared 0 (buildWords c.n) c.words;
-        floats = cleared nought (buildFloats c.n) c.floats;
+        wide = batch_wide i;
+        words = cleared 0 (build_words c.n) c.words;
+        floats = cleared nought (build_floats c.n) c.floats;
       })
 
 -- close
 
 module _ (c : CloseCall) (h : ActsAsOne c.params.alpha) where
-  abbrev closeOne : CloseCall
-  closeOne = closeBy (withAlpha one c.params) c
+  abbrev close_one : CloseCall
+  close_one = close_by (with_alpha one c.params) c
 
-  close-number : closeNumber c ≡ closeNumber closeOne
-  unfolding closeNumber
-  close-number = rw (not-5 c.params h) refl
+  close_number_lem : close_number c ≡ close_number close_one
+  unfolding close_number
+  close_number_lem = rw (not_5 c.params h) refl
 
-  close-closed : (closeDone c).closed ≡ (closeDone closeOne).closed
-  unfolding closeDone setting_of
-  close-closed =
-      close-alike c.n (between c.dim c.vectors) c.params.degree c.params.beam c.params.alpha one (target c.params h) c.wide
+  close_closed : (close_done c).closed ≡ (close_done close_one).closed
+  unfolding close_done setting_of
+  close_closed =
+      close_alike c.n (between c.dim c.vectors) c.params.degree c.params.beam c.params.alpha one (target c.params h) c.wide
 
-  pub close-alpha-one : closeOut c ≡ closeOut (closeBy (withAlpha one c.params) c)
-  unfolding closeOut closeKept closeDone
-  close-alpha-one =
-      λ i. byNumber (close-number i) (record { answer = refused (close-number i); closed = c.closed; words = c.words; floats = c.floats })
+  pub close_alpha_one : close_out c ≡ close_out (close_by (with_alpha one c.params) c)
+  unfolding close_out close_kept close_done
+  close_alpha_one =
+      λ i. by_number (close_number_lem i) (record { answer = refused (close_number_lem i); closed = c.closed; words = c.words; floats = c.floats })
       (record {
         answer = done;
-        closed = close-closed i;
-        words = cleared 0 (buildWords c.n) c.words;
-        floats = cleared nought (buildFloats c.n) c.floats;
+        closed = close_closed i;
+        words = cleared 0 (build_words c.n) c.words;
+        floats = cleared nought (build_floats c.n) c.floats;
       })
 
 -- a whole build
 
 module _ (c : BuildCall) (h : ActsAsOne c.params.alpha) where
-  abbrev buildOne : BuildCall
-  buildOne = buildBy (withAlpha one c.params) c
+  abbrev build_one : BuildCall
+  build_one = build_by (with_alpha one c.params) c
 
-  build-number : buildNumber c ≡ buildNumber buildOne
-  unfolding buildNumber
-  build-number = rw (not-5 c.params h) refl
+  build_number_lem : build_number c ≡ build_number build_one
+  unfolding build_number
+  build_number_lem = rw (not_5 c.params h) refl
 
-  build-wide : builtWide c ≡ builtWide buildOne
-  unfolding builtWide built setting_of
-  build-wide =
-      batches-alike c.n (between c.dim c.vectors) c.params.degree c.params.beam c.params.alpha one (target c.params h) c.start
+  build_wide : built_wide c ≡ built_wide build_one
+  unfolding built_wide built setting_of
+  build_wide =
+      batches_alike c.n (between c.dim c.vectors) c.params.degree c.params.beam c.params.alpha one (target c.params h) c.start
       c.params.extra (length c.order) c.order c.seeds (open' c.n c.params.degree c.opening)
 
-  build-closed : (buildDone c).closed ≡ (buildDone buildOne).closed
-  unfolding buildDone setting_of
-  build-closed =
-      close-alike c.n (between c.dim c.vectors) c.params.degree c.params.beam c.params.alpha one (target c.params h) (builtWide c)
-      ∙ ap (close (setting_of c.n c.dim c.vectors (withAlpha one c.params))) build-wide
+  build_closed : (build_done c).closed ≡ (build_done build_one).closed
+  unfolding build_done setting_of
+  build_closed =
+      close_alike c.n (between c.dim c.vectors) c.params.degree c.params.beam c.params.alpha one (target c.params h) (built_wide c)
+      ∙ ap (close (setting_of c.n c.dim c.vectors (with_alpha one c.params))) build_wide
 
-  pub build-alpha-one : buildOut c ≡ buildOut (buildBy (withAlpha one c.params) c)
-  unfolding buildOut buildKept buildDone
-  build-alpha-one =
-      λ i. byNumber (build-number i)
-      (record { answer = refused (build-number i); wide = c.wide; closed = c.closed; words = c.words; floats = c.floats })
+  pub build_alpha_one : build_out c ≡ build_out (build_by (with_alpha one c.params) c)
+  unfolding build_out build_kept build_done
+  build_alpha_one =
+      λ i. by_number (build_number_lem i)
+      (record { answer = refused (build_number_lem i); wide = c.wide; closed = c.closed; words = c.words; floats = c.floats })
       (record {
         answer = done;
-        wide = build-wide i;
-        closed = build-closed i;
-        words = cleared 0 (buildWords c.n) c.words;
-        floats = cleared nought (buildFloats c.n) c.floats;
+        wide = build_wide i;
+        closed = build_closed i;
+        words = cleared 0 (build_words c.n) c.words;
+        floats = cleared nought (build_floats c.n) c.floats;
       })

@@ -4,13 +4,13 @@ use Rattle.std.specs.Prelude.{ℕ, ◌≡◌, List}
 use Rattle.std.proofs.Common.{ap}
 use Rattle.definition.specs.declared.Candidate.{Candidate}
 use Rattle.definition.specs.Search.{searched, answers}
-use Rattle.definition.specs.Refusals.{SearchCall, searchNumber, searchNumberAt, searchShort, recordsNumber, badBeam, mostAnswers}
-use Rattle.definition.specs.Outcome.{found, walked, foundIds, foundDists, foundRecords, searchOut, searchKept, searchDone, recordsOut, recordsKept, recordsDone}
-use Rattle.definition.specs.Outcome.{cleanedCall, lookupOut}
+use Rattle.definition.specs.Refusals.{SearchCall, search_number, search_number_at, search_short, records_number, bad_beam, most_answers}
+use Rattle.definition.specs.Outcome.{found, walked, found_ids, found_dists, found_records, search_out, search_kept, search_done, records_out, records_kept, records_done}
+use Rattle.definition.specs.Outcome.{cleaned_call, lookup_out}
 
 -- the call with another beam
-abbrev pub withBeam : ℕ → SearchCall → SearchCall
-withBeam beam c =
+abbrev pub with_beam : ℕ → SearchCall → SearchCall
+with_beam beam c =
     record {
       n = c.n;
       dim = c.dim;
@@ -27,15 +27,15 @@ withBeam beam c =
       dists = c.dists;
     }
 
-pub search-beam-zero : (c : SearchCall) → c.beam ≡ 0 → searchOut c ≡ searchOut (withBeam 1 c)
-unfolding searchOut searchKept searchDone searchNumber searchNumberAt searchShort badBeam mostAnswers found walked foundIds foundDists answers searched
-search-beam-zero c e = ap (λ (b : ℕ). searchOut (withBeam b c)) e
+pub search_beam_zero : (c : SearchCall) → c.beam ≡ 0 → search_out c ≡ search_out (with_beam 1 c)
+unfolding search_out search_kept search_done search_number search_number_at search_short bad_beam most_answers found walked found_ids found_dists answers searched
+search_beam_zero c e = ap (λ (b : ℕ). search_out (with_beam b c)) e
 
-pub lookup-beam-zero : (c : SearchCall) → c.beam ≡ 0 → lookupOut c ≡ lookupOut (withBeam 1 c)
-unfolding lookupOut cleanedCall
-lookup-beam-zero c e = search-beam-zero (cleanedCall c) e
+pub lookup_beam_zero : (c : SearchCall) → c.beam ≡ 0 → lookup_out c ≡ lookup_out (with_beam 1 c)
+unfolding lookup_out cleaned_call
+lookup_beam_zero c e = search_beam_zero (cleaned_call c) e
 
-pub records-beam-zero : (c : SearchCall) (records : List Candidate) → c.beam ≡ 0 → recordsOut c records ≡ recordsOut (withBeam 1 c) records
-unfolding recordsOut recordsKept recordsDone searchDone recordsNumber searchNumberAt searchShort badBeam mostAnswers
-    found walked foundIds foundDists foundRecords answers searched
-records-beam-zero c records e = ap (λ (b : ℕ). recordsOut (withBeam b c) records) e
+pub records_beam_zero : (c : SearchCall) (records : List Candidate) → c.beam ≡ 0 → records_out c records ≡ records_out (with_beam 1 c) records
+unfolding records_out records_kept records_done search_done records_number search_number_at search_short bad_beam most_answers
+    found walked found_ids found_dists found_records answers searched
+records_beam_zero c records e = ap (λ (b : ℕ). records_out (with_beam b c) records) e

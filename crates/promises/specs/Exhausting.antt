@@ -10,113 +10,113 @@ use mathlib.Core.List.Memᴰ.{tail as there}
 use mathlib.Core.List.{List, map, map-map, Nodup, Memᴰ as Mem}
 use Rattle.std.proofs.Math.ListN.{length, take, length-map}
 use Rattle.definition.specs.Lists.{over}
-use Rattle.definition.specs.Metric.{fromQuery, whole}
+use Rattle.definition.specs.Metric.{from_query, whole}
 use Rattle.definition.specs.Beam.{Item, item}
-use Rattle.definition.specs.Search.{listedFirst}
-use Rattle.definition.specs.Refusals.{ExhaustiveCall, exhaustiveNumber}
-use Rattle.definition.specs.Outcome.{answer, refused, nearestTo, ExhaustiveOut, ExhaustiveMeets, exhaustiveOut, exhaustiveKept, exhaustiveDone}
+use Rattle.definition.specs.Search.{listed_first}
+use Rattle.definition.specs.Refusals.{ExhaustiveCall, exhaustive_number}
+use Rattle.definition.specs.Outcome.{answer, refused, nearest_to, ExhaustiveOut, ExhaustiveMeets, exhaustive_out, exhaustive_kept, exhaustive_done}
 use Rattle.laws.specs.Mapped.{map_same}
-use Rattle.laws.specs.Apart.{apart-nodup}
+use Rattle.laws.specs.Apart.{apart_nodup}
 use Rattle.laws.specs.Sorting.{Ordered, none, more}
-use Rattle.laws.specs.Writing.{over-front}
-use Rattle.laws.specs.Items.{ids_of, ids-elim, listed-higher}
-use Rattle.theory.specs.recall.Nearest.{nearest-count, nearest-own, nearest-ordered, nearest-once, nearest-before}
-use Rattle.accepted.specs.Outcomes.{by-success, said-zero}
-use Rattle.promises.specs.Outcomes.{exhaustive-is}
+use Rattle.laws.specs.Writing.{over_front}
+use Rattle.laws.specs.Items.{ids_of, ids_elim, listed_higher}
+use Rattle.theory.specs.recall.Nearest.{nearest_count, nearest_own, nearest_ordered, nearest_once, nearest_before}
+use Rattle.accepted.specs.Outcomes.{by_success, said_zero}
+use Rattle.promises.specs.Outcomes.{exhaustive_is}
 
 -- the distance from the query to an entry, and the entry as it is listed
-abbrev pub distanceFrom : ExhaustiveCall → ℕ → ℕ
-distanceFrom c = fromQuery c.dim c.vectors c.query
+abbrev pub distance_from : ExhaustiveCall → ℕ → ℕ
+distance_from c = from_query c.dim c.vectors c.query
 
 abbrev pub entry : ExhaustiveCall → ℕ → Item
-entry c i = item (distanceFrom c i) i
+entry c i = item (distance_from c i) i
 
 pub record NearestHeld (c : ExhaustiveCall) (count : ℕ) (ids : List ℕ) (dists : List Float) : Type 0 where
-  pub count-is : count ≡ min c.k c.n
-  pub ids-are : take count ids ≡ map (λ a. a.id) (nearestTo c)
+  pub count_is : count ≡ min c.k c.n
+  pub ids_are : take count ids ≡ map (λ a. a.id) (nearest_to c)
   pub size : length (take count ids) ≡ count
   pub once : Nodup (take count ids)
   pub below : (i : ℕ) → Mem i (take count ids) → i < c.n
-  pub own : take count dists ≡ map (λ i. whole (distanceFrom c i)) (take count ids)
-  pub ordered : Ordered (λ i j. listedFirst (entry c i) (entry c j)) (take count ids)
-  pub left_out : (i : ℕ) → i < c.n → ¬ Mem i (take count ids) → (j : ℕ) → Mem j (take count ids) → listedFirst (entry c j) (entry c i) ≡ true
-  pub newer : (i : ℕ) → i < c.n → ¬ Mem i (take count ids) → (j : ℕ) → Mem j (take count ids) → distanceFrom c i ≡ distanceFrom c j → i < j
+  pub own : take count dists ≡ map (λ i. whole (distance_from c i)) (take count ids)
+  pub ordered : Ordered (λ i j. listed_first (entry c i) (entry c j)) (take count ids)
+  pub left_out : (i : ℕ) → i < c.n → ¬ Mem i (take count ids) → (j : ℕ) → Mem j (take count ids) → listed_first (entry c j) (entry c i) ≡ true
+  pub newer : (i : ℕ) → i < c.n → ¬ Mem i (take count ids) → (j : ℕ) → Mem j (take count ids) → distance_from c i ≡ distance_from c j → i < j
 
 -- items in order, each with its own distance: so are their ids
-ids-ordered : (d : ℕ → ℕ) {l : List Item} → ((x : Item) → Mem x l → x ≡ item (d x.id) x.id) → Ordered listedFirst l
-    → Ordered (λ i j. listedFirst (item (d i) i) (item (d j) j)) (ids_of l)
-ids-ordered d own none = none
-ids-ordered d own (more {x = x} {xs = xs} l a) =
+ids_ordered : (d : ℕ → ℕ) {l : List Item} → ((x : Item) → Mem x l → x ≡ item (d x.id) x.id) → Ordered listed_first l
+    → Ordered (λ i j. listed_first (item (d i) i) (item (d j) j)) (ids_of l)
+ids_ordered d own none = none
+ids_ordered d own (more {x = x} {xs = xs} l a) =
     more
-    (ids-elim (λ j. listedFirst (item (d x.id) x.id) (item (d j) j) ≡ true) xs
+    (ids_elim (λ j. listed_first (item (d x.id) x.id) (item (d j) j) ≡ true) xs
     (λ c m. rw (← own x (here refl), ← own c (there m)) (l c m)))
-    (ids-ordered d (λ c m. own c (there m)) a)
+    (ids_ordered d (λ c m. own c (there m)) a)
 
 module _ (c : ExhaustiveCall) where
   abbrev d : ℕ → ℕ
-  d = distanceFrom c
+  d = distance_from c
 
-  answer-own : (x : Item) → Mem x (nearestTo c) → x ≡ entry c x.id
-  unfolding nearestTo
-  answer-own x m = λ i. record { dist = (nearest-own d c.n c.k x m).0 i; id = x.id }
+  answer_own : (x : Item) → Mem x (nearest_to c) → x ≡ entry c x.id
+  unfolding nearest_to
+  answer_own x m = λ i. record { dist = (nearest_own d c.n c.k x m).0 i; id = x.id }
 
-  answers-count : length (nearestTo c) ≡ min c.k c.n
-  unfolding nearestTo
-  answers-count = nearest-count d c.n c.k
+  answers_count : length (nearest_to c) ≡ min c.k c.n
+  unfolding nearest_to
+  answers_count = nearest_count d c.n c.k
 
-  answers-once : Nodup (ids_of (nearestTo c))
-  unfolding nearestTo
-  answers-once = apart-nodup (nearest-once d c.n c.k)
+  answers_once : Nodup (ids_of (nearest_to c))
+  unfolding nearest_to
+  answers_once = apart_nodup (nearest_once d c.n c.k)
 
-  answers-below : (x : Item) → Mem x (nearestTo c) → x.id < c.n
-  unfolding nearestTo
-  answers-below x m = (nearest-own d c.n c.k x m).1
+  answers_below : (x : Item) → Mem x (nearest_to c) → x.id < c.n
+  unfolding nearest_to
+  answers_below x m = (nearest_own d c.n c.k x m).1
 
-  answers-ordered : Ordered listedFirst (nearestTo c)
-  unfolding nearestTo
-  answers-ordered = nearest-ordered d c.n c.k
+  answers_ordered : Ordered listed_first (nearest_to c)
+  unfolding nearest_to
+  answers_ordered = nearest_ordered d c.n c.k
 
-  answers-left-out : (i : ℕ) → i < c.n → ¬ Mem i (ids_of (nearestTo c)) → (j : ℕ) → Mem j (ids_of (nearestTo c)) → listedFirst (entry c j) (entry c i) ≡ true
-  unfolding nearestTo
-  answers-left-out i h out =
-      ids-elim (λ j. listedFirst (entry c j) (entry c i) ≡ true) (nearestTo c)
-      (λ y m. ap (λ (x : Item). listedFirst x (entry c i)) (sym (answer-own y m)) ∙ nearest-before d c.n c.k i h out y m)
+  answers_left_out : (i : ℕ) → i < c.n → ¬ Mem i (ids_of (nearest_to c)) → (j : ℕ) → Mem j (ids_of (nearest_to c)) → listed_first (entry c j) (entry c i) ≡ true
+  unfolding nearest_to
+  answers_left_out i h out =
+      ids_elim (λ j. listed_first (entry c j) (entry c i) ≡ true) (nearest_to c)
+      (λ y m. ap (λ (x : Item). listed_first x (entry c i)) (sym (answer_own y m)) ∙ nearest_before d c.n c.k i h out y m)
 
-  done_held : NearestHeld c (exhaustiveDone c).answer.count (exhaustiveDone c).ids (exhaustiveDone c).dists
-  unfolding exhaustiveDone answer
+  done_held : NearestHeld c (exhaustive_done c).answer.count (exhaustive_done c).ids (exhaustive_done c).dists
+  unfolding exhaustive_done answer
   done_held =
       record {
-        count-is = answers-count;
-        ids-are = ids-are;
-        size = ap length ids-are ∙ length-map (nearestTo c) (λ a. a.id);
-        once = rw ids-are answers-once;
-        below = rw ids-are (ids-elim (λ i. i < c.n) (nearestTo c) answers-below);
-        own = dists-are ∙ own ∙ ap (map (λ i. whole (d i))) (sym ids-are);
-        ordered = rw ids-are (ids-ordered d answer-own answers-ordered);
-        left_out = rw ids-are answers-left-out;
-        newer = rw ids-are (λ i h out j m e. listed-higher (entry c j) (entry c i) (answers-left-out i h out j m) (sym e));
+        count_is = answers_count;
+        ids_are = ids_are;
+        size = ap length ids_are ∙ length-map (nearest_to c) (λ a. a.id);
+        once = rw ids_are answers_once;
+        below = rw ids_are (ids_elim (λ i. i < c.n) (nearest_to c) answers_below);
+        own = dists_are ∙ own ∙ ap (map (λ i. whole (d i))) (sym ids_are);
+        ordered = rw ids_are (ids_ordered d answer_own answers_ordered);
+        left_out = rw ids_are answers_left_out;
+        newer = rw ids_are (λ i h out j m e. listed_higher (entry c j) (entry c i) (answers_left_out i h out j m) (sym e));
       }
     where
-      ids-are : take (length (nearestTo c)) (over (ids_of (nearestTo c)) c.ids) ≡ ids_of (nearestTo c)
-      ids-are = over-front (ids_of (nearestTo c)) c.ids (length (nearestTo c)) (length-map (nearestTo c) (λ a. a.id))
+      ids_are : take (length (nearest_to c)) (over (ids_of (nearest_to c)) c.ids) ≡ ids_of (nearest_to c)
+      ids_are = over_front (ids_of (nearest_to c)) c.ids (length (nearest_to c)) (length-map (nearest_to c) (λ a. a.id))
 
       far : Item → Float
       far a = whole a.dist
 
-      dists-are : take (length (nearestTo c)) (over (map far (nearestTo c)) c.dists) ≡ map far (nearestTo c)
-      dists-are = over-front (map far (nearestTo c)) c.dists (length (nearestTo c)) (length-map (nearestTo c) far)
+      dists_are : take (length (nearest_to c)) (over (map far (nearest_to c)) c.dists) ≡ map far (nearest_to c)
+      dists_are = over_front (map far (nearest_to c)) c.dists (length (nearest_to c)) (length-map (nearest_to c) far)
 
-      own : map far (nearestTo c) ≡ map (λ i. whole (d i)) (ids_of (nearestTo c))
+      own : map far (nearest_to c) ≡ map (λ i. whole (d i)) (ids_of (nearest_to c))
       own =
-          map_same far (λ a. whole (d a.id)) (nearestTo c) (λ x m. ap (λ (y : Item). whole y.dist) (answer-own x m))
-          ∙ sym (map-map (λ i. whole (d i)) (λ a. a.id) (nearestTo c))
+          map_same far (λ a. whole (d a.id)) (nearest_to c) (λ x m. ap (λ (y : Item). whole y.dist) (answer_own x m))
+          ∙ sym (map-map (λ i. whole (d i)) (λ a. a.id) (nearest_to c))
 
-pub exhaustive-held : (c : ExhaustiveCall) (o : ExhaustiveOut) → ExhaustiveMeets c o → o.answer.number ≡ 0
+pub exhaustive_held : (c : ExhaustiveCall) (o : ExhaustiveOut) → ExhaustiveMeets c o → o.answer.number ≡ 0
     → NearestHeld c o.answer.count o.ids o.dists
-unfolding exhaustiveOut exhaustiveKept refused answer
-exhaustive-held c o m accepted =
-    let is = exhaustive-is m in
-    let passed = said-zero (exhaustiveKept c) (exhaustiveDone c) (λ (p : ExhaustiveOut). p.answer.number) (exhaustiveNumber c) refl
+unfolding exhaustive_out exhaustive_kept refused answer
+exhaustive_held c o m accepted =
+    let is = exhaustive_is m in
+    let passed = said_zero (exhaustive_kept c) (exhaustive_done c) (λ (p : ExhaustiveOut). p.answer.number) (exhaustive_number c) refl
     (ap (λ (p : ExhaustiveOut). p.answer.number) (sym is) ∙ accepted) in
     subst (λ (p : ExhaustiveOut). NearestHeld c p.answer.count p.ids p.dists)
-    (sym (is ∙ by-success (exhaustiveKept c) (exhaustiveDone c) (exhaustiveNumber c) passed)) (done_held c)
+    (sym (is ∙ by_success (exhaustive_kept c) (exhaustive_done c) (exhaustive_number c) passed)) (done_held c)

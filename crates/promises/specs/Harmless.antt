@@ -13,24 +13,24 @@ use Rattle.definition.specs.Metric.{whole}
 use Rattle.definition.specs.Floats.{nought}
 use Rattle.definition.specs.Beam.{Item}
 use Rattle.definition.specs.Greedy.{State}
-use Rattle.definition.specs.Search.{listedFirst, ranked, searched, answers}
-use Rattle.definition.specs.Refusals.{badSearched, searchWords, searchFloats}
-use Rattle.definition.specs.Refusals.{SearchCall, searchNumber, searchNumberAt, searchShort, recordsNumber}
-use Rattle.definition.specs.Outcome.{searchAnswer, found, walked, foundIds, foundDists, foundRecords}
-use Rattle.definition.specs.Outcome.{searchOut, searchKept, searchDone, recordsOut, recordsKept, recordsDone}
-use Rattle.laws.specs.Places.{tableOf-mem}
-use Rattle.laws.specs.Tables.{row-length, row-mem, row-tableOf, table-length, length-padded, ids-few}
-use Rattle.theory.specs.Rule.{searchRule-mem, mem-searchRule}
-use Rattle.theory.specs.search.Alike.{read_of, greedy-alike}
-use Rattle.theory.specs.search.Plain.{plainRow, plain-length, plain-words, plain-read, padded-words, padded-read}
-use Rattle.accepted.specs.Outcomes.{by-success}
+use Rattle.definition.specs.Search.{listed_first, ranked, searched, answers}
+use Rattle.definition.specs.Refusals.{bad_searched, search_words, search_floats}
+use Rattle.definition.specs.Refusals.{SearchCall, search_number, search_number_at, search_short, records_number}
+use Rattle.definition.specs.Outcome.{search_answer, found, walked, found_ids, found_dists, found_records}
+use Rattle.definition.specs.Outcome.{search_out, search_kept, search_done, records_out, records_kept, records_done}
+use Rattle.laws.specs.Places.{table_of_mem}
+use Rattle.laws.specs.Tables.{row-length, row-mem, row_table_of, table_length, length-padded, ids-few}
+use Rattle.theory.specs.Rule.{search_rule-mem, mem-search_rule}
+use Rattle.theory.specs.search.Alike.{read_of, greedy_alike}
+use Rattle.theory.specs.search.Plain.{plain_row, plain_length, plain_words, plain_read, padded_words, padded_read}
+use Rattle.accepted.specs.Outcomes.{by_success}
 use Rattle.accepted.specs.Checks.{searched-passes}
-use Rattle.accepted.specs.Search.{SearchAccepted, ground, search-accepted, records-accepted}
+use Rattle.accepted.specs.Search.{SearchAccepted, ground, search_accepted, records_accepted}
 use Rattle.promises.specs.Searching.{rows_of}
 
 -- the call with another table
-abbrev pub withTable : List ℕ → SearchCall → SearchCall
-withTable table c =
+abbrev pub with_table : List ℕ → SearchCall → SearchCall
+with_table table c =
     record {
       n = c.n;
       dim = c.dim;
@@ -51,54 +51,54 @@ withTable table c =
 
 -- the table passes check 8, and of each row the same is read
 pub record ReadAlike (c : SearchCall) (table : List ℕ) : Type 0 where
-  pub passes : badSearched c.n c.degree table ≡ false
+  pub passes : bad_searched c.n c.degree table ≡ false
   pub alike : (i : ℕ) → i < c.n → read_of i (rows_of c i) ≡ read_of i (row c.degree table i)
 
 module _ (c : SearchCall) (table : List ℕ) (r : ReadAlike c table) where
-  walked-reads : SearchAccepted c → walked c ≡ walked (withTable table c)
+  walked_reads : SearchAccepted c → walked c ≡ walked (with_table table c)
   unfolding walked searched
-  walked-reads a = greedy-alike (ground c a) (row c.degree table) r.alike
+  walked_reads a = greedy_alike (ground c a) (row c.degree table) r.alike
 
-  pub found-reads : SearchAccepted c → found c ≡ found (withTable table c)
+  pub found_reads : SearchAccepted c → found c ≡ found (with_table table c)
   unfolding found answers ranked walked
-  found-reads a = ap (λ (s : State). take c.k (sort listedFirst s.work)) (walked-reads a)
+  found_reads a = ap (λ (s : State). take c.k (sort listed_first s.work)) (walked_reads a)
 
-  done-alike : SearchAccepted c → searchDone c ≡ searchDone (withTable table c)
-  unfolding searchDone foundIds foundDists
-  done-alike a =
+  done_alike : SearchAccepted c → search_done c ≡ search_done (with_table table c)
+  unfolding search_done found_ids found_dists
+  done_alike a =
       ap₂ (λ (l : List Item) (s : State).
       record {
-        answer = searchAnswer (length l) (length s.expanded) (length s.visited);
-        words = cleared 0 (searchWords c.n) c.words;
-        floats = cleared nought searchFloats c.floats;
+        answer = search_answer (length l) (length s.expanded) (length s.visited);
+        words = cleared 0 (search_words c.n) c.words;
+        floats = cleared nought search_floats c.floats;
         ids = over (map (λ x. x.id) l) c.ids;
         dists = over (map (λ x. whole x.dist) l) c.dists;
-      }) (found-reads a) (walked-reads a)
+      }) (found_reads a) (walked_reads a)
 
-  number-alike : (tooShort : Bool) → SearchAccepted c → searchNumberAt tooShort c ≡ searchNumberAt tooShort (withTable table c)
-  unfolding searchNumberAt
-  number-alike tooShort a = rw (searched-passes c.n c.degree c.table a.table_is a.ruled, r.passes)
+  number_alike : (tooShort : Bool) → SearchAccepted c → search_number_at tooShort c ≡ search_number_at tooShort (with_table table c)
+  unfolding search_number_at
+  number_alike tooShort a = rw (searched-passes c.n c.degree c.table a.table_is a.ruled, r.passes)
 
-  pub search-reads : searchNumber c ≡ 0 → searchOut c ≡ searchOut (withTable table c)
-  unfolding searchOut searchNumber searchShort
-  search-reads z =
-      let a = search-accepted c z in
-      let same = number-alike (searchShort c) a in
-      by-success (searchKept c) (searchDone c) (searchNumber c) z
-      ∙ done-alike a
-      ∙ sym (by-success (searchKept (withTable table c)) (searchDone (withTable table c)) (searchNumber (withTable table c)) (sym same ∙ z))
+  pub search_reads : search_number c ≡ 0 → search_out c ≡ search_out (with_table table c)
+  unfolding search_out search_number search_short
+  search_reads z =
+      let a = search_accepted c z in
+      let same = number_alike (search_short c) a in
+      by_success (search_kept c) (search_done c) (search_number c) z
+      ∙ done_alike a
+      ∙ sym (by_success (search_kept (with_table table c)) (search_done (with_table table c)) (search_number (with_table table c)) (sym same ∙ z))
 
-  pub records-reads : (records : List Candidate) → recordsNumber c records ≡ 0 → recordsOut c records ≡ recordsOut (withTable table c) records
-  unfolding recordsOut recordsDone recordsNumber searchShort foundRecords
-  records-reads records z =
-      let a = (records-accepted c records z).0 in
-      let same = number-alike _ a in
-      let d : recordsDone c records ≡ recordsDone (withTable table c) records = λ i. record {
-        plain = done-alike a i;
-        records = over (map (λ x. record { id = x.id; distance = whole x.dist }) (found-reads a i)) records;
+  pub records_reads : (records : List Candidate) → records_number c records ≡ 0 → records_out c records ≡ records_out (with_table table c) records
+  unfolding records_out records_done records_number search_short found_records
+  records_reads records z =
+      let a = (records_accepted c records z).0 in
+      let same = number_alike _ a in
+      let d : records_done c records ≡ records_done (with_table table c) records = λ i. record {
+        plain = done_alike a i;
+        records = over (map (λ x. record { id = x.id; distance = whole x.dist }) (found_reads a i)) records;
       } in
-      by-success (recordsKept c records) (recordsDone c records) (recordsNumber c records) z ∙ d
-      ∙ sym (by-success (recordsKept (withTable table c) records) (recordsDone (withTable table c) records) (recordsNumber (withTable table c) records)
+      by_success (records_kept c records) (records_done c records) (records_number c records) z ∙ d
+      ∙ sym (by_success (records_kept (with_table table c) records) (records_done (with_table table c) records) (records_number (with_table table c) records)
       (sym same ∙ z))
 
 -- ---- a table by its rows
@@ -107,11 +107,11 @@ module _ (c : SearchCall) (table : List ℕ) (r : ReadAlike c table) where
 abbrev Word : ℕ → ℕ → Type 0
 Word n w = w ≢ pad → w < n
 
-pad-word : (n : ℕ) → Word n pad
-pad-word n other = absurd (other refl)
+pad_word : (n : ℕ) → Word n pad
+pad_word n other = absurd (other refl)
 
 row_word : (c : SearchCall) → SearchAccepted c → (i w : ℕ) → Mem w (rows_of c i) → Word c.n w
-row_word c a i w m = searchRule-mem c.n c.table a.ruled w (row-mem c.degree c.table i m)
+row_word c a i w m = search_rule-mem c.n c.table a.ruled w (row-mem c.degree c.table i m)
 
 -- rows of words, as wide as they should be, that read as the call's
 rows_alike : (c : SearchCall) (rows : ℕ → List ℕ) → ((i : ℕ) → i < c.n → length (rows i) ≡ c.degree)
@@ -120,57 +120,57 @@ rows_alike : (c : SearchCall) (rows : ℕ → List ℕ) → ((i : ℕ) → i < c
     → ReadAlike c (table_of c.n rows)
 rows_alike c rows wide words alike =
     record {
-      passes = searched-passes c.n c.degree (table_of c.n rows) (table-length c.n c.degree rows wide)
-          (mem-searchRule c.n (table_of c.n rows) (λ w m. let t = tableOf-mem c.n rows m in words t.0 w t.2));
-      alike = λ i h. alike i ∙ ap (read_of i) (sym (row-tableOf c.n c.degree rows wide i h));
+      passes = searched-passes c.n c.degree (table_of c.n rows) (table_length c.n c.degree rows wide)
+          (mem-search_rule c.n (table_of c.n rows) (λ w m. let t = table_of_mem c.n rows m in words t.0 w t.2));
+      alike = λ i h. alike i ∙ ap (read_of i) (sym (row_table_of c.n c.degree rows wide i h));
     }
 
 -- ---- each own id and each repeat within a row is padding
 
-unfoldable pub plainTable : SearchCall → List ℕ
-plainTable c = table_of c.n (λ i. plainRow i (rows_of c i))
+unfoldable pub plain_table : SearchCall → List ℕ
+plain_table c = table_of c.n (λ i. plain_row i (rows_of c i))
 
-plain-alike : (c : SearchCall) → SearchAccepted c → ReadAlike c (plainTable c)
-unfolding plainTable plainRow
-plain-alike c a =
-    rows_alike c (λ i. plainRow i (rows_of c i))
-    (λ i h. plain-length (i ∷ []) (rows_of c i) ∙ row-length c.n c.degree c.table a.table_is i h)
-    (λ i. plain-words (Word c.n) (pad-word c.n) (rows_of c i) (i ∷ []) (row_word c a i)) (λ i. sym (plain-read i (rows_of c i)))
+plain_alike : (c : SearchCall) → SearchAccepted c → ReadAlike c (plain_table c)
+unfolding plain_table plain_row
+plain_alike c a =
+    rows_alike c (λ i. plain_row i (rows_of c i))
+    (λ i h. plain_length (i ∷ []) (rows_of c i) ∙ row-length c.n c.degree c.table a.table_is i h)
+    (λ i. plain_words (Word c.n) (pad_word c.n) (rows_of c i) (i ∷ []) (row_word c a i)) (λ i. sym (plain_read i (rows_of c i)))
 
-pub search-harmless : (c : SearchCall) → searchNumber c ≡ 0 → searchOut c ≡ searchOut (withTable (plainTable c) c)
-search-harmless c z = search-reads c (plainTable c) (plain-alike c (search-accepted c z)) z
+pub search_harmless : (c : SearchCall) → search_number c ≡ 0 → search_out c ≡ search_out (with_table (plain_table c) c)
+search_harmless c z = search_reads c (plain_table c) (plain_alike c (search_accepted c z)) z
 
-pub records-harmless : (c : SearchCall) (records : List Candidate) → recordsNumber c records ≡ 0
-    → recordsOut c records ≡ recordsOut (withTable (plainTable c) c) records
-records-harmless c records z = records-reads c (plainTable c) (plain-alike c (records-accepted c records z).0) records z
+pub records_harmless : (c : SearchCall) (records : List Candidate) → records_number c records ≡ 0
+    → records_out c records ≡ records_out (with_table (plain_table c) c) records
+records_harmless c records z = records_reads c (plain_table c) (plain_alike c (records_accepted c records z).0) records z
 
 -- ---- the ids of each row come first, then only padding
 
-unfoldable pub idsFirstTable : SearchCall → List ℕ
-idsFirstTable c = table_of c.n (λ i. padded c.degree (ids (rows_of c i)))
+unfoldable pub ids_first_table : SearchCall → List ℕ
+ids_first_table c = table_of c.n (λ i. padded c.degree (ids (rows_of c i)))
 
-first_alike : (c : SearchCall) → SearchAccepted c → ReadAlike c (idsFirstTable c)
-unfolding idsFirstTable
+first_alike : (c : SearchCall) → SearchAccepted c → ReadAlike c (ids_first_table c)
+unfolding ids_first_table
 first_alike c a =
     rows_alike c (λ i. padded c.degree (ids (rows_of c i))) wide
-    (λ i. padded-words (Word c.n) (pad-word c.n) c.degree (rows_of c i) (row_word c a i)) (λ i. padded-read i c.degree (rows_of c i))
+    (λ i. padded_words (Word c.n) (pad_word c.n) c.degree (rows_of c i) (row_word c a i)) (λ i. padded_read i c.degree (rows_of c i))
   where
     wide : (i : ℕ) → i < c.n → length (padded c.degree (ids (rows_of c i))) ≡ c.degree
     wide i h =
         let size = row-length c.n c.degree c.table a.table_is i h in
         length-padded c.degree (ids (rows_of c i)) (omega (arith, ids-few (rows_of c i)))
 
-pub search-skips : (c : SearchCall) → searchNumber c ≡ 0 → searchOut c ≡ searchOut (withTable (idsFirstTable c) c)
-search-skips c z = search-reads c (idsFirstTable c) (first_alike c (search-accepted c z)) z
+pub search_skips : (c : SearchCall) → search_number c ≡ 0 → search_out c ≡ search_out (with_table (ids_first_table c) c)
+search_skips c z = search_reads c (ids_first_table c) (first_alike c (search_accepted c z)) z
 
-pub records-skips : (c : SearchCall) (records : List Candidate) → recordsNumber c records ≡ 0
-    → recordsOut c records ≡ recordsOut (withTable (idsFirstTable c) c) records
-records-skips c records z = records-reads c (idsFirstTable c) (first_alike c (records-accepted c records z).0) records z
+pub records_skips : (c : SearchCall) (records : List Candidate) → records_number c records ≡ 0
+    → records_out c records ≡ records_out (with_table (ids_first_table c) c) records
+records_skips c records z = records_reads c (ids_first_table c) (first_alike c (records_accepted c records z).0) records z
 
 -- ---- so for the answers alone, those of a text's search too
 
-pub found-harmless : (c : SearchCall) → searchNumber c ≡ 0
-    → (found c ≡ found (withTable (plainTable c) c)) × (found c ≡ found (withTable (idsFirstTable c) c))
-found-harmless c z =
-    let a = search-accepted c z in
-    (found-reads c (plainTable c) (plain-alike c a) a, found-reads c (idsFirstTable c) (first_alike c a) a)
+pub found_harmless : (c : SearchCall) → search_number c ≡ 0
+    → (found c ≡ found (with_table (plain_table c) c)) × (found c ≡ found (with_table (ids_first_table c) c))
+found_harmless c z =
+    let a = search_accepted c z in
+    (found_reads c (plain_table c) (plain_alike c a) a, found_reads c (ids_first_table c) (first_alike c a) a)

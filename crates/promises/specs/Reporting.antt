@@ -11,44 +11,44 @@ use Rattle.std.proofs.Math.ListN.{length-map}
 use Rattle.definition.specs.declared.Report.{Report}
 use Rattle.definition.specs.Lists.{upto}
 use Rattle.definition.specs.Tables.{row}
-use Rattle.definition.specs.Metric.{fromQuery, vector}
+use Rattle.definition.specs.Metric.{from_query, vector}
 use Rattle.definition.specs.Search.{ranked, searched, answers}
-use Rattle.definition.specs.Recall.{inBoth, hits}
-use Rattle.definition.specs.Refusals.{ReportCall, reportNumber}
-use Rattle.definition.specs.Outcome.{byNumber, SearchOut, SearchMeets, foundIds, found, ExhaustiveOut, ExhaustiveMeets, nearestTo}
-use Rattle.definition.specs.Outcome.{reported, queryCount, askedEach, hitsAt, allHits, ReportOut, ReportMeets, reportOut, reportKept, reportDone}
+use Rattle.definition.specs.Recall.{in_both, hits}
+use Rattle.definition.specs.Refusals.{ReportCall, report_number}
+use Rattle.definition.specs.Outcome.{by_number, SearchOut, SearchMeets, found_ids, found, ExhaustiveOut, ExhaustiveMeets, nearest_to}
+use Rattle.definition.specs.Outcome.{reported, query_count, asked_each, hits_at, all_hits, ReportOut, ReportMeets, report_out, report_kept, report_done}
 use Rattle.laws.specs.Members.{length-upto}
 use Rattle.laws.specs.Tables.{row-mem}
-use Rattle.theory.specs.Rule.{searchRule-mem}
+use Rattle.theory.specs.Rule.{search_rule-mem}
 use Rattle.theory.specs.search.Tells.{Reachable}
 use Rattle.theory.specs.search.Ground.{Ground}
-use Rattle.theory.specs.recall.Brought.{brought-answered, brought-nearest, all-brought}
-use Rattle.theory.specs.recall.Counted.{total-most, count_most, count-least, count-all, all-count, total-all}
-use Rattle.accepted.specs.Outcomes.{by-success, said-zero}
-use Rattle.accepted.specs.Recall.{ReportAccepted, report-accepted, searchOf, exhaustiveOf}
-use Rattle.promises.specs.Outcomes.{report-is}
-use Rattle.promises.specs.Held.{search-held}
-use Rattle.promises.specs.Exhausting.{exhaustive-held}
+use Rattle.theory.specs.recall.Brought.{brought_answered, brought_nearest, all_brought}
+use Rattle.theory.specs.recall.Counted.{total_most, count_most, count_least, count-all, all-count, total-all}
+use Rattle.accepted.specs.Outcomes.{by_success, said_zero}
+use Rattle.accepted.specs.Recall.{ReportAccepted, report_accepted, search_of, exhaustive_of}
+use Rattle.promises.specs.Outcomes.{report_is}
+use Rattle.promises.specs.Held.{search_held}
+use Rattle.promises.specs.Exhausting.{exhaustive_held}
 
 -- `found` is at most `asked`, and at most what the searches can answer; each query that is `whole` has all of its own in `found`; and all queries are whole
 -- exactly when all that was asked for was found
 pub record ReportTells (c : ReportCall) (r : Report) : Type 0 where
-  pub found-asked : r.found ≤ r.asked
-  pub found-beam : r.found ≤ r.queries * min c.k (max c.beam 1)
-  pub whole-queries : r.whole ≤ r.queries
-  pub whole-found : r.whole * min c.k c.n ≤ r.found
+  pub found_asked : r.found ≤ r.asked
+  pub found_beam : r.found ≤ r.queries * min c.k (max c.beam 1)
+  pub whole_queries : r.whole ≤ r.queries
+  pub whole_found : r.whole * min c.k c.n ≤ r.found
   pub all_found : r.whole ≡ r.queries → r.found ≡ r.asked
   pub all_whole : r.found ≡ r.asked → r.whole ≡ r.queries
 
 -- a refusal counts nothing
-none-tells : (c : ReportCall) (number : ℕ) → ReportTells c (reported number 0 0 0 0)
+none_tells : (c : ReportCall) (number : ℕ) → ReportTells c (reported number 0 0 0 0)
 unfolding reported
-none-tells c number =
+none_tells c number =
     record {
-      found-asked = zero-le;
-      found-beam = zero-le;
-      whole-queries = zero-le;
-      whole-found = omega (arith, zero-mul (min c.k c.n));
+      found_asked = zero-le;
+      found_beam = zero-le;
+      whole_queries = zero-le;
+      whole_found = omega (arith, zero-mul (min c.k c.n));
       all_found = λ e. refl;
       all_whole = λ e. refl;
     }
@@ -58,109 +58,109 @@ module _ (c : ReportCall) (a : ReportAccepted c) where
   abbrev ground : ℕ → Ground
   ground q =
       record {
-        d = fromQuery c.dim c.vectors (vector c.dim c.queries q);
+        d = from_query c.dim c.vectors (vector c.dim c.queries q);
         rows = row c.degree c.table;
         n = c.n;
         beam = max c.beam 1;
         start = c.start;
-        starts = a.start-in;
-        good = λ i w below m. searchRule-mem c.n c.table a.ruled w (row-mem c.degree c.table i m);
+        starts = a.start_in;
+        good = λ i w below m. search_rule-mem c.n c.table a.ruled w (row-mem c.degree c.table i m);
       }
 
-  hits-nearest : (q : ℕ) → hitsAt c q ≤ min c.k c.n
-  unfolding hitsAt hits answers ranked searched
-  hits-nearest q = brought-nearest (ground q) c.k
+  hits_nearest : (q : ℕ) → hits_at c q ≤ min c.k c.n
+  unfolding hits_at hits answers ranked searched
+  hits_nearest q = brought_nearest (ground q) c.k
 
-  hits-answered : (q : ℕ) → hitsAt c q ≤ min c.k (max c.beam 1)
-  unfolding hitsAt hits answers ranked searched
-  hits-answered q = brought-answered (ground q) c.k
+  hits_answered : (q : ℕ) → hits_at c q ≤ min c.k (max c.beam 1)
+  unfolding hits_at hits answers ranked searched
+  hits_answered q = brought_answered (ground q) c.k
 
   -- of all queries
-  each-hit : (P : ℕ → Type 0) → ((q : ℕ) → P (hitsAt c q)) → (h : ℕ) → Mem h (allHits c) → P h
-  unfolding allHits
-  each-hit P f h m = let t = of_map (hitsAt c) (upto (queryCount c)) m in subst P t.2 (f t.0)
+  each_hit : (P : ℕ → Type 0) → ((q : ℕ) → P (hits_at c q)) → (h : ℕ) → Mem h (all_hits c) → P h
+  unfolding all_hits
+  each_hit P f h m = let t = of_map (hits_at c) (upto (query_count c)) m in subst P t.2 (f t.0)
 
-  hits-length : length (allHits c) ≡ queryCount c
-  unfolding allHits
-  hits-length = length-map (upto (queryCount c)) (hitsAt c) ∙ length-upto (queryCount c)
+  hits_length : length (all_hits c) ≡ query_count c
+  unfolding all_hits
+  hits_length = length-map (upto (query_count c)) (hits_at c) ∙ length-upto (query_count c)
 
   abbrev most : ℕ
   most = min c.k c.n
 
-  few : (h : ℕ) → Mem h (allHits c) → h ≤ most
-  few = each-hit (λ h. h ≤ most) hits-nearest
+  few : (h : ℕ) → Mem h (all_hits c) → h ≤ most
+  few = each_hit (λ h. h ≤ most) hits_nearest
 
   -- so many queries, each asking for so many
-  times : (m : ℕ) → length (allHits c) * m ≡ queryCount c * m
-  times m = ap (λ (q : ℕ). q * m) hits-length
+  times : (m : ℕ) → length (all_hits c) * m ≡ query_count c * m
+  times m = ap (λ (q : ℕ). q * m) hits_length
 
-  done-tells : ReportTells c (reportDone c).report
-  unfolding reportDone reported askedEach
-  done-tells =
+  done_tells : ReportTells c (report_done c).report
+  unfolding report_done reported asked_each
+  done_tells =
       record {
-        found-asked = omega (arith, total-most most (allHits c) few, times most);
-        found-beam = let m = min c.k (max c.beam 1) in
-            omega (arith, total-most m (allHits c) (each-hit (λ h. h ≤ m) hits-answered), times m);
-        whole-queries = omega (arith, count_most most (allHits c), hits-length);
-        whole-found = count-least most (allHits c);
-        all_found = λ e. count-all most (allHits c) (e ∙ sym hits-length) few ∙ times most;
-        all_whole = λ e. all-count most (allHits c) (e ∙ sym (times most)) few ∙ hits-length;
+        found_asked = omega (arith, total_most most (all_hits c) few, times most);
+        found_beam = let m = min c.k (max c.beam 1) in
+            omega (arith, total_most m (all_hits c) (each_hit (λ h. h ≤ m) hits_answered), times m);
+        whole_queries = omega (arith, count_most most (all_hits c), hits_length);
+        whole_found = count_least most (all_hits c);
+        all_found = λ e. count-all most (all_hits c) (e ∙ sym hits_length) few ∙ times most;
+        all_whole = λ e. all-count most (all_hits c) (e ∙ sym (times most)) few ∙ hits_length;
       }
 
   module _ (room : c.n ≤ c.beam) (all : (i : ℕ) → i < c.n → Reachable (row c.degree c.table) c.start i) where
-    hits-all : (q : ℕ) → hitsAt c q ≡ min c.k c.n
-    unfolding hitsAt hits answers ranked searched
-    hits-all q = all-brought (ground q) c.k (omega arith) all
+    hits_all : (q : ℕ) → hits_at c q ≡ min c.k c.n
+    unfolding hits_at hits answers ranked searched
+    hits_all q = all_brought (ground q) c.k (omega arith) all
 
-    done_all : (reportDone c).report.found ≡ (reportDone c).report.asked
-    unfolding reportDone reported askedEach
-    done_all = total-all most (allHits c) (each-hit (λ h. h ≡ most) hits-all) ∙ times most
+    done_all : (report_done c).report.found ≡ (report_done c).report.asked
+    unfolding report_done reported asked_each
+    done_all = total-all most (all_hits c) (each_hit (λ h. h ≡ most) hits_all) ∙ times most
 
 -- by whether it was refused
-pub report-tells : (c : ReportCall) (o : ReportOut) → ReportMeets c o → ReportTells c o.report
-unfolding reportOut reportKept byNumber
-report-tells c o m = subst (λ (p : ReportOut). ReportTells c p.report) (sym (report-is m)) (go (reportNumber c) refl)
+pub report_tells : (c : ReportCall) (o : ReportOut) → ReportMeets c o → ReportTells c o.report
+unfolding report_out report_kept by_number
+report_tells c o m = subst (λ (p : ReportOut). ReportTells c p.report) (sym (report_is m)) (go (report_number c) refl)
   where
-    go : (k : ℕ) → reportNumber c ≡ k → ReportTells c (byNumber k (reportKept c) (reportDone c)).report
-    go zero e = done-tells c (report-accepted c e)
-    go (suc k) e = none-tells c (reportNumber c)
+    go : (k : ℕ) → report_number c ≡ k → ReportTells c (by_number k (report_kept c) (report_done c)).report
+    go zero e = done_tells c (report_accepted c e)
+    go (suc k) e = none_tells c (report_number c)
 
 -- a report that was not refused
-passes : (c : ReportCall) (o : ReportOut) → ReportMeets c o → o.report.number ≡ 0 → (reportNumber c ≡ 0) × (o ≡ reportDone c)
-unfolding reportOut reportKept reported
+passes : (c : ReportCall) (o : ReportOut) → ReportMeets c o → o.report.number ≡ 0 → (report_number c ≡ 0) × (o ≡ report_done c)
+unfolding report_out report_kept reported
 passes c o m e =
-    let is = report-is m in
-    let z = said-zero (reportKept c) (reportDone c) (λ (p : ReportOut). p.report.number) (reportNumber c) refl
+    let is = report_is m in
+    let z = said_zero (report_kept c) (report_done c) (λ (p : ReportOut). p.report.number) (report_number c) refl
     (ap (λ (p : ReportOut). p.report.number) (sym is) ∙ e) in
-    (z, is ∙ by-success (reportKept c) (reportDone c) (reportNumber c) z)
+    (z, is ∙ by_success (report_kept c) (report_done c) (report_number c) z)
 
 -- all bytes are queries, and min(k, n) entries are asked for by each
-pub report-counts : (c : ReportCall) (o : ReportOut) → ReportMeets c o → o.report.number ≡ 0
+pub report_counts : (c : ReportCall) (o : ReportOut) → ReportMeets c o → o.report.number ≡ 0
     → (o.report.queries * c.dim ≡ length c.queries) × (o.report.asked ≡ o.report.queries * min c.k c.n)
-unfolding reportDone reported askedEach
-report-counts c o m e =
+unfolding report_done reported asked_each
+report_counts c o m e =
     let p = passes c o m e in
     subst (λ (q : ReportOut). (q.report.queries * c.dim ≡ length c.queries) × (q.report.asked ≡ q.report.queries * min c.k c.n))
-    (sym p.1) (sym (report-accepted c p.0).queries-are, refl)
+    (sym p.1) (sym (report_accepted c p.0).queries_are, refl)
 
 -- if every entry is reachable from the start and the beam is at least n, all that was asked for was found
-pub report-all : (c : ReportCall) (o : ReportOut) → ReportMeets c o → o.report.number ≡ 0 → c.n ≤ c.beam
+pub report_all : (c : ReportCall) (o : ReportOut) → ReportMeets c o → o.report.number ≡ 0 → c.n ≤ c.beam
     → ((i : ℕ) → i < c.n → Reachable (row c.degree c.table) c.start i)
     → (o.report.found ≡ o.report.asked) × (o.report.whole ≡ o.report.queries)
-report-all c o m e room all =
+report_all c o m e room all =
     let p = passes c o m e in
-    let found = subst (λ (q : ReportOut). q.report.found ≡ q.report.asked) (sym p.1) (done_all c (report-accepted c p.0) room all) in
-    (found, (report-tells c o m).all_whole found)
+    let found = subst (λ (q : ReportOut). q.report.found ≡ q.report.asked) (sym p.1) (done_all c (report_accepted c p.0) room all) in
+    (found, (report_tells c o m).all_whole found)
 
 -- what is counted of query q is what a search and an exhaustive search of it have in common, whatever room and outputs they are lent
-pub report-by-calls : (c : ReportCall) (q : ℕ) (words : List ℕ) (floats : List Float) (ids near : List ℕ) (dists nearDists : List Float)
-    (o : SearchOut) (e : ExhaustiveOut) → SearchMeets (searchOf c (vector c.dim c.queries q) words floats ids dists) o
-    → ExhaustiveMeets (exhaustiveOf c (vector c.dim c.queries q) near nearDists) e
+pub report_by_calls : (c : ReportCall) (q : ℕ) (words : List ℕ) (floats : List Float) (ids near : List ℕ) (dists nearDists : List Float)
+    (o : SearchOut) (e : ExhaustiveOut) → SearchMeets (search_of c (vector c.dim c.queries q) words floats ids dists) o
+    → ExhaustiveMeets (exhaustive_of c (vector c.dim c.queries q) near nearDists) e
     → o.answer.number ≡ 0
     → e.answer.number ≡ 0
-    → hitsAt c q ≡ inBoth (take o.answer.count o.ids) (take e.answer.count e.ids)
-unfolding hitsAt hits foundIds found nearestTo
-report-by-calls c q words floats ids near dists nearDists o e s x p z =
+    → hits_at c q ≡ in_both (take o.answer.count o.ids) (take e.answer.count e.ids)
+unfolding hits_at hits found_ids found nearest_to
+report_by_calls c q words floats ids near dists nearDists o e s x p z =
     let query = vector c.dim c.queries q in
-    ap₂ inBoth (sym (search-held (searchOf c query words floats ids dists) o s p).ids-are)
-    (sym (exhaustive-held (exhaustiveOf c query near nearDists) e x z).ids-are)
+    ap₂ in_both (sym (search_held (search_of c query words floats ids dists) o s p).ids_are)
+    (sym (exhaustive_held (exhaustive_of c query near nearDists) e x z).ids_are)

@@ -5,17 +5,17 @@ use Rattle.std.specs.Prelude.{ℕ, ◌+◌, ◌*◌, ◌≤◌, ◌<◌, ◌≡�
 use Rattle.std.proofs.Common.{ap, ap₂, ◌∙◌}
 use Rattle.definition.specs.Lists.{over, cleared}
 use Rattle.definition.specs.Tables.{row}
-use Rattle.definition.specs.Metric.{saturated, squared, summed, metric, whole, fromQuery}
+use Rattle.definition.specs.Metric.{saturated, squared, summed, metric, whole, from_query}
 use Rattle.definition.specs.Floats.{nought}
 use Rattle.definition.specs.Search.{searched, answers}
-use Rattle.definition.specs.Refusals.{◌when◌else◌, badDim, badVectors, DistanceCall, distanceNumber}
-use Rattle.definition.specs.Refusals.{SearchCall, searchNumber, searchNumberAt, searchShort, searchWords, searchFloats}
-use Rattle.definition.specs.Outcome.{answer, refused, byNumber, searchAnswer, distanceOut}
-use Rattle.definition.specs.Outcome.{SearchOut, found, walked, foundIds, foundDists, searchOut, searchKept, searchDone, cleanedCall, lookupOut}
-use Rattle.theory.specs.Metric.{Bytes, byte-metric, metric-most, metric-silent, query-silent}
-use Rattle.accepted.specs.Outcomes.{by-success}
+use Rattle.definition.specs.Refusals.{◌when◌else◌, bad_dim, bad_vectors, DistanceCall, distance_number}
+use Rattle.definition.specs.Refusals.{SearchCall, search_number, search_number_at, search_short, search_words, search_floats}
+use Rattle.definition.specs.Outcome.{answer, refused, by_number, search_answer, distance_out}
+use Rattle.definition.specs.Outcome.{SearchOut, found, walked, found_ids, found_dists, search_out, search_kept, search_done, cleaned_call, lookup_out}
+use Rattle.theory.specs.Metric.{Bytes, byte_metric, metric_most, metric_silent, query_silent}
+use Rattle.accepted.specs.Outcomes.{by_success}
 use Rattle.accepted.specs.Chain.{passed}
-use Rattle.accepted.specs.Checks.{dim-good}
+use Rattle.accepted.specs.Checks.{dim_good}
 
 -- ---- distance
 
@@ -23,39 +23,39 @@ abbrev pub of : List ℕ → List ℕ → DistanceCall
 of a b = record { first = a; second = b }
 
 -- an accepted call
-module _ (a b : List ℕ) (z : distanceNumber (of a b) ≡ 0) where
-  pub distance_is : distanceOut (of a b) ≡ answer 0 0 0 0 (whole (metric a b))
-  unfolding distanceOut
-  distance_is = by-success (refused (distanceNumber (of a b))) (answer 0 0 0 0 (whole (metric a b))) (distanceNumber (of a b)) z
+module _ (a b : List ℕ) (z : distance_number (of a b) ≡ 0) where
+  pub distance_is : distance_out (of a b) ≡ answer 0 0 0 0 (whole (metric a b))
+  unfolding distance_out
+  distance_is = by_success (refused (distance_number (of a b))) (answer 0 0 0 0 (whole (metric a b))) (distance_number (of a b)) z
 
   pub distance_most : Bytes a → Bytes b → metric a b ≤ 16516096
-  unfolding distanceNumber
-  distance_most p q = metric-most a b (dim-good (length a) (passed 0 _ _ z).0).1 p q
+  unfolding distance_number
+  distance_most p q = metric_most a b (dim_good (length a) (passed 0 _ _ z).0).1 p q
 
 -- any call of two vectors as long as each other: the same number and the same distance either way round
-pub distance-turned : (a b : List ℕ) → length a ≡ length b → distanceOut (of a b) ≡ distanceOut (of b a)
-unfolding distanceOut distanceNumber
-distance-turned a b l = rw (byte-metric.symmetric a b, l) refl
+pub distance_turned : (a b : List ℕ) → length a ≡ length b → distance_out (of a b) ≡ distance_out (of b a)
+unfolding distance_out distance_number
+distance_turned a b l = rw (byte_metric.symmetric a b, l) refl
 
 -- of a vector and itself: 0, unless it is refused
-pub distance-itself : (a : List ℕ) → distanceNumber (of a a) ≡ 0 → distanceOut (of a a) ≡ answer 0 0 0 0 (whole 0)
-distance-itself a z = distance_is a a z ∙ ap (λ (d : ℕ). answer 0 0 0 0 (whole d)) (byte-metric.same a)
+pub distance_itself : (a : List ℕ) → distance_number (of a a) ≡ 0 → distance_out (of a a) ≡ answer 0 0 0 0 (whole 0)
+distance_itself a z = distance_is a a z ∙ ap (λ (d : ℕ). answer 0 0 0 0 (whole d)) (byte_metric.same a)
 
 -- any call: what the second vector has where the first is saturated does not matter
-pub distance-silent : (a b other : List ℕ) → length b ≡ length other
-    → ((k : ℕ) → k < length b → (get_or a k 0 ≡ 255) ⊎ (get_or b k 0 ≡ get_or other k 0)) → distanceOut (of a b) ≡ distanceOut (of a other)
-unfolding distanceOut distanceNumber
-distance-silent a b other l h = rw (metric-silent a b other l h, l) refl
+pub distance_silent : (a b other : List ℕ) → length b ≡ length other
+    → ((k : ℕ) → k < length b → (get_or a k 0 ≡ 255) ⊎ (get_or b k 0 ≡ get_or other k 0)) → distance_out (of a b) ≡ distance_out (of a other)
+unfolding distance_out distance_number
+distance_silent a b other l h = rw (metric_silent a b other l h, l) refl
 
 -- 0 does not mean equal bytes
-pub distance-zero-unequal : distanceOut (of (0 ∷ []) (255 ∷ [])) ≡ answer 0 0 0 0 (whole 0)
-unfolding distanceOut distanceNumber badDim ◌when◌else◌ byNumber metric summed squared saturated
-distance-zero-unequal = refl
+pub distance_zero_unequal : distance_out (of (0 ∷ []) (255 ∷ [])) ≡ answer 0 0 0 0 (whole 0)
+unfolding distance_out distance_number bad_dim ◌when◌else◌ by_number metric summed squared saturated
+distance_zero_unequal = refl
 
 -- ---- search, lookup
 
-abbrev pub withVectors : List ℕ → SearchCall → SearchCall
-withVectors vectors c =
+abbrev pub with_vectors : List ℕ → SearchCall → SearchCall
+with_vectors vectors c =
     record {
       n = c.n;
       dim = c.dim;
@@ -78,28 +78,28 @@ pub record SaidAlike (c : SearchCall) (vectors : List ℕ) : Type 0 where
   pub alike : (i j : ℕ) → j < c.dim → (get_or c.query j 0 ≡ 255) ⊎ (get_or c.vectors (i * c.dim + j) 0 ≡ get_or vectors (i * c.dim + j) 0)
 
 -- what a search leaves, by its distances
-doneBy : SearchCall → (ℕ → ℕ) → SearchOut
-doneBy c dist =
+done_by : SearchCall → (ℕ → ℕ) → SearchOut
+done_by c dist =
     let s = searched dist (row c.degree c.table) c.n c.beam c.start in
     let l = answers dist (row c.degree c.table) c.n c.beam c.start c.k in
     record {
-      answer = searchAnswer (length l) (length s.expanded) (length s.visited);
-      words = cleared 0 (searchWords c.n) c.words;
-      floats = cleared nought searchFloats c.floats;
+      answer = search_answer (length l) (length s.expanded) (length s.visited);
+      words = cleared 0 (search_words c.n) c.words;
+      floats = cleared nought search_floats c.floats;
       ids = over (map (λ x. x.id) l) c.ids;
       dists = over (map (λ x. whole x.dist) l) c.dists;
     }
 
 -- any call, refused or not: the same answers, counts and number, and everything lent is left the same
-pub search-silent : (c : SearchCall) (vectors : List ℕ) → SaidAlike c vectors → searchOut c ≡ searchOut (withVectors vectors c)
-unfolding searchOut searchKept searchDone found walked foundIds foundDists doneBy searchNumber searchNumberAt badVectors searchShort
-search-silent c vectors h =
-    let far : fromQuery c.dim c.vectors c.query ≡ fromQuery c.dim vectors c.query =
-    λ t i. query-silent c.dim c.vectors vectors c.query h.size h.alike i t in
-    let number : searchNumber c ≡ searchNumber (withVectors vectors c) = rw h.size refl in
+pub search_silent : (c : SearchCall) (vectors : List ℕ) → SaidAlike c vectors → search_out c ≡ search_out (with_vectors vectors c)
+unfolding search_out search_kept search_done found walked found_ids found_dists done_by search_number search_number_at bad_vectors search_short
+search_silent c vectors h =
+    let far : from_query c.dim c.vectors c.query ≡ from_query c.dim vectors c.query =
+    λ t i. query_silent c.dim c.vectors vectors c.query h.size h.alike i t in
+    let number : search_number c ≡ search_number (with_vectors vectors c) = rw h.size refl in
     ap₂ (λ (k : ℕ) (d : ℕ → ℕ).
-    byNumber k (record { answer = refused k; words = c.words; floats = c.floats; ids = c.ids; dists = c.dists }) (doneBy c d)) number far
+    by_number k (record { answer = refused k; words = c.words; floats = c.floats; ids = c.ids; dists = c.dists }) (done_by c d)) number far
 
-pub lookup-silent : (c : SearchCall) (vectors : List ℕ) → SaidAlike c vectors → lookupOut c ≡ lookupOut (withVectors vectors c)
-unfolding lookupOut cleanedCall
-lookup-silent c vectors h = search-silent (cleanedCall c) vectors (record { size = h.size; alike = h.alike })
+pub lookup_silent : (c : SearchCall) (vectors : List ℕ) → SaidAlike c vectors → lookup_out c ≡ lookup_out (with_vectors vectors c)
+unfolding lookup_out cleaned_call
+lookup_silent c vectors h = search_silent (cleaned_call c) vectors (record { size = h.size; alike = h.alike })

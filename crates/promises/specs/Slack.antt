@@ -5,14 +5,14 @@ use Rattle.std.specs.Float.Ieee.{of_bits, of_int, mul}
 use Rattle.definition.specs.Lists.{each, run}
 use Rattle.definition.specs.Metric.{whole}
 use Rattle.definition.specs.Floats.{times}
-use Rattle.definition.specs.Slack.{slackFactor, ceil, slackByFloats, slack}
-use Rattle.laws.specs.Members.{each-run}
+use Rattle.definition.specs.Slack.{slack_factor, ceil, slack_by_floats, slack}
+use Rattle.laws.specs.Members.{each_run}
 
 -- computed
-slack-table : each (λ k. eqb (slackByFloats k) (slack k)) (run 1 64) ≡ true
-unfolding slackByFloats slack slackFactor ceil of_bits of_int mul whole times each run
-slack-table = refl
+slack_table : each (λ k. eqb (slack_by_floats k) (slack k)) (run 1 64) ≡ true
+unfolding slack_by_floats slack slack_factor ceil of_bits of_int mul whole times each run
+slack_table = refl
 
-pub slack-same : (degree : ℕ) → 1 ≤ degree → degree ≤ 64 → slackByFloats degree ≡ slack degree
+pub slack-same : (degree : ℕ) → 1 ≤ degree → degree ≤ 64 → slack_by_floats degree ≡ slack degree
 slack-same degree lo hi =
-    eqb-true (slackByFloats degree) (slack degree) (each-run (λ k. eqb (slackByFloats k) (slack k)) 1 64 degree slack-table lo (omega arith))
+    eqb-true (slack_by_floats degree) (slack degree) (each_run (λ k. eqb (slack_by_floats k) (slack k)) 1 64 degree slack_table lo (omega arith))

@@ -5,57 +5,57 @@ use Rattle.std.specs.Prelude.{ℕ, ◌+◌, ◌*◌, ◌≤◌, ◌<◌, ◌≡�
 use Rattle.std.proofs.Common.{mul-one, mul-add, arith, ap, ◌∙◌}
 use Rattle.definition.specs.Lists.{groups}
 use Rattle.definition.specs.Build.{open'}
-use Rattle.definition.specs.Refusals.{BatchCall, BuildCall, batchNumber, buildNumber}
+use Rattle.definition.specs.Refusals.{BatchCall, BuildCall, batch_number, build_number}
 use Rattle.definition.specs.Outcome.{setting_of}
-use Rattle.theory.specs.build.Walks.{Walk, walk, nodeWalks, batchWalks, runWalks, batch-walks, run-walks, epochAfter, epochEnd, walks-most}
-use Rattle.accepted.specs.Checks.{extra-good}
-use Rattle.accepted.specs.Build.{batch-accepted, build-accepted}
+use Rattle.theory.specs.build.Walks.{Walk, walk, node_walks, batch_walks, run_walks, batch-walks, run-walks, epoch_after, epoch_end, walks_most}
+use Rattle.accepted.specs.Checks.{extra_good}
+use Rattle.accepted.specs.Build.{batch-accepted, build_accepted}
 
 -- the searches of a batch, and of a whole build, in their order
-abbrev pub batchWalksOf : BatchCall → List Walk
-batchWalksOf c = batchWalks c.wide c.start c.nodes (groups (length c.nodes) c.params.extra c.seeds)
+abbrev pub batch_walks_of : BatchCall → List Walk
+batch_walks_of c = batch_walks c.wide c.start c.nodes (groups (length c.nodes) c.params.extra c.seeds)
 
-abbrev pub buildWalksOf : BuildCall → List Walk
-buildWalksOf c =
-    runWalks (setting_of c.n c.dim c.vectors c.params) c.start c.params.extra (length c.order) c.order c.seeds
+abbrev pub build_walks_of : BuildCall → List Walk
+build_walks_of c =
+    run_walks (setting_of c.n c.dim c.vectors c.params) c.start c.params.extra (length c.order) c.order c.seeds
     (open' c.n c.params.degree c.opening)
 
 -- of so many nodes, which are at most `most`, with so many seeds each: how many they are, and the epoch that they come to
 pub record Walked (walks : List Walk) (nodes extra most : ℕ) : Type 0 where
   pub count : length walks ≡ nodes * (1 + extra)
   pub few : length walks ≤ most * 17
-  pub epoch-most : epochAfter 1 walks ≤ 1 + most * 17
-  pub epoch-fits : epochAfter 1 walks < epochEnd
+  pub epoch_most : epoch_after 1 walks ≤ 1 + most * 17
+  pub epoch_fits : epoch_after 1 walks < epoch_end
 
 walked : (walks : List Walk) (nodes extra most : ℕ) → length walks ≡ nodes + nodes * extra → nodes ≤ most → most ≤ 65536 → extra ≤ 16
     → Walked walks nodes extra most
 walked walks nodes extra most e h low k =
     let each : nodes * (1 + extra) ≡ nodes + nodes * extra = mul-add nodes 1 extra ∙ ap (λ (m : ℕ). m + nodes * extra) (mul-one nodes) in
-    let all = walks-most h k in
-    record { count = omega arith; few = omega arith; epoch-most = omega arith; epoch-fits = omega arith }
+    let all = walks_most h k in
+    record { count = omega arith; few = omega arith; epoch_most = omega arith; epoch_fits = omega arith }
 
-pub batch-walked : (c : BatchCall) → batchNumber c ≡ 0 → Walked (batchWalksOf c) (length c.nodes) c.params.extra 256
+pub batch-walked : (c : BatchCall) → batch_number c ≡ 0 → Walked (batch_walks_of c) (length c.nodes) c.params.extra 256
 batch-walked c e =
     let a = batch-accepted c e in
     let size = a.seeds.size in
     let many = batch-walks c.wide c.start c.params.extra c.nodes c.seeds size in
-    walked (batchWalksOf c) (length c.nodes) c.params.extra 256 (omega arith) a.nodes-few (omega arith)
-    (extra-good c.n c.params.extra a.seeds.limits).0
+    walked (batch_walks_of c) (length c.nodes) c.params.extra 256 (omega arith) a.nodes_few (omega arith)
+    (extra_good c.n c.params.extra a.seeds.limits).0
 
-pub build-walked : (c : BuildCall) → buildNumber c ≡ 0 → Walked (buildWalksOf c) c.n c.params.extra 65536
-build-walked c e =
-    let a = build-accepted c e in
+pub build_walked : (c : BuildCall) → build_number c ≡ 0 → Walked (build_walks_of c) c.n c.params.extra 65536
+build_walked c e =
+    let a = build_accepted c e in
     let g = setting_of c.n c.dim c.vectors c.params in
     let opened = open' c.n c.params.degree c.opening in
     let size = a.seeds.size in
     let order = a.order_is in
     let same : length c.order * c.params.extra ≡ c.n * c.params.extra = ap (λ (k : ℕ). k * c.params.extra) order in
     let many = run-walks g c.start c.params.extra (length c.order) c.order c.seeds opened (omega arith) (omega arith) in
-    walked (buildWalksOf c) c.n c.params.extra 65536 (omega arith) a.entries.nodes (omega arith)
-    (extra-good c.n c.params.extra a.seeds.limits).0
+    walked (build_walks_of c) c.n c.params.extra 65536 (omega arith) a.entries.nodes (omega arith)
+    (extra_good c.n c.params.extra a.seeds.limits).0
 
 -- two nodes with two seeds each, from start 9: in this order
-pub two-nodes : (wide : List ℕ) → batchWalks wide 9 (3 ∷ 5 ∷ []) (groups 2 2 (1 ∷ 2 ∷ 7 ∷ 4 ∷ []))
+pub two_nodes : (wide : List ℕ) → batch_walks wide 9 (3 ∷ 5 ∷ []) (groups 2 2 (1 ∷ 2 ∷ 7 ∷ 4 ∷ []))
     ≡ walk wide 3 9 ∷ walk wide 3 1 ∷ walk wide 3 2 ∷ walk wide 5 9 ∷ walk wide 5 7 ∷ walk wide 5 4 ∷ []
-unfolding batchWalks nodeWalks groups
-two-nodes wide = refl
+unfolding batch_walks node_walks groups
+two_nodes wide = refl

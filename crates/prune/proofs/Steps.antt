@@ -13,20 +13,20 @@ use lib.Seq.{take-suc-set}
 use Rattle.definition.specs.Beam.{Item, item}
 use Rattle.definition.specs.Metric.{between}
 use Rattle.definition.specs.Floats.{largest, above, one}
-use Rattle.definition.specs.Prune.{rounds, shadeAll, nextAlpha, target_of, mostRounds}
+use Rattle.definition.specs.Prune.{rounds, shade_all, next_alpha, target_of, most_rounds}
 use Rattle.laws.specs.Truth.{either}
 use Rattle.laws.specs.Paired.{items_of, items_at, items-length}
-use Rattle.prune.specs.Says.{shadedFrom, roundsOf, Taken}
-use Rattle.prune.proofs.Walking.{onward, onward-start, onward-skip, onward-take, onward-end, onward-full}
+use Rattle.prune.specs.Says.{shaded_from, rounds_of, Taken}
+use Rattle.prune.proofs.Walking.{onward, onward_start, onward_skip, onward_take, onward_end, onward_full}
 
 -- what a round takes from place i on, with room for so many, and the rounds after it
 abbrev still : (dim : ℕ) (vectors ids dists : List ℕ) (target : Float) (fuel : ℕ) (current : Float) (room : ℕ) (fs : List Float) (i : ℕ) → List ℕ
 still dim vectors ids dists target fuel current room fs i = onward (between dim vectors) target fuel current room (items_of ids dists) fs i
 
 -- what stands in the row once the round is over that began with these factors and this row, and the rounds after it
-abbrev pub fromRound : (dim : ℕ) (vectors ids dists : List ℕ) (target current : Float) (degree round : ℕ) (fs : List Float) (row : List ℕ)
+abbrev pub from_round : (dim : ℕ) (vectors ids dists : List ℕ) (target current : Float) (degree round : ℕ) (fs : List Float) (row : List ℕ)
     (taken : ℕ) → List ℕ
-fromRound dim vectors ids dists target current degree round fs row taken =
+from_round dim vectors ids dists target current degree round fs row taken =
     take taken row ++ still dim vectors ids dists target (8 - round) current (degree - taken) fs 0
 
 -- within a round
@@ -47,11 +47,11 @@ pub record Going (dim : ℕ) (vectors ids dists : List ℕ) (target : Float) (de
   pub nr : length row ≡ size
   pub is : take taken row ++ rounds (between dim vectors) target (9 - round) current (degree - taken) (items_of ids dists) fs ≡ all
 
-pub going-first : {dim : ℕ} {vectors ids dists : List ℕ} {target : Float} {degree : ℕ} (alpha : Float) (fs : List Float) (row : List ℕ)
+pub going_first : {dim : ℕ} {vectors ids dists : List ℕ} {target : Float} {degree : ℕ} (alpha : Float) (fs : List Float) (row : List ℕ)
     → target ≡ target_of alpha → length fs ≡ length ids
-    → Going dim vectors ids dists target degree (roundsOf dim vectors ids dists degree alpha fs) (length row) fs row (of_bits binary32 0x3F800000) 0 0
-unfolding roundsOf mostRounds one
-going-first {degree = degree} alpha fs row e nf = record { before = omega arith; few = omega arith; nf = nf; nr = refl; is = rw (sub-zero degree, e) refl }
+    → Going dim vectors ids dists target degree (rounds_of dim vectors ids dists degree alpha fs) (length row) fs row (of_bits binary32 0x3F800000) 0 0
+unfolding rounds_of most_rounds one
+going_first {degree = degree} alpha fs row e nf = record { before = omega arith; few = omega arith; nf = nf; nr = refl; is = rw (sub-zero degree, e) refl }
 
 module _ {dim : ℕ} {vectors ids dists : List ℕ} {target : Float} {degree : ℕ} where
   pub walk_same : {fuel : ℕ} {current : Float} {all : List ℕ} {size : ℕ} {fs fs' : List Float} {row row' : List ℕ} {taken taken' i : ℕ}
@@ -82,26 +82,26 @@ module _ {dim : ℕ} {vectors ids dists : List ℕ} {target : Float} {degree : �
     abbrev then : ℕ → List Float → ℕ → List ℕ
     then room fs i = still dim vectors ids dists target fuel current room fs i
 
-    pub walk-skip : lt current (get_or fs i nan) ≡ true → Walk dim vectors ids dists target fuel current degree all size fs row taken (i + 1)
-    walk-skip t =
+    pub walk_skip : lt current (get_or fs i nan) ≡ true → Walk dim vectors ids dists target fuel current degree all size fs row taken (i + 1)
+    walk_skip t =
         let r : degree - taken ≡ suc (degree - taken - 1) = omega arith in
         let e : then (degree - taken) fs i ≡ then (degree - taken) fs (i + 1) =
-        rw r (onward-skip (between dim vectors) target fuel current cs fs nf i (degree - taken - 1) here (omega (arith, n)) at t) in
+        rw r (onward_skip (between dim vectors) target fuel current cs fs nf i (degree - taken - 1) here (omega (arith, n)) at t) in
         record { le = omega arith; few = w.few; nf = w.nf; nr = w.nr; is = ap (λ (l : List ℕ). take taken row ++ l) (sym e) ∙ w.is }
 
-    pub walk-take : lt current (get_or fs i nan) ≡ false → degree ≤ size → {fs' : List Float} → length fs' ≡ length fs
-        → fs' ≡ shadedFrom dim vectors ids dists target (get_or ids i 0) (i + 1) (set fs i largest)
+    pub walk_take : lt current (get_or fs i nan) ≡ false → degree ≤ size → {fs' : List Float} → length fs' ≡ length fs
+        → fs' ≡ shaded_from dim vectors ids dists target (get_or ids i 0) (i + 1) (set fs i largest)
         → Walk dim vectors ids dists target fuel current degree all size fs' (set row taken (get_or ids i 0)) (taken + 1) (i + 1)
-    unfolding shadedFrom
-    walk-take t wide {fs'} nf' e =
+    unfolding shaded_from
+    walk_take t wide {fs'} nf' e =
         let id = get_or ids i 0 in
         let fs₁ = set fs i largest in
         let r : degree - taken ≡ suc (degree - (taken + 1)) = omega arith in
-        let e' : fs' ≡ take (suc i) fs₁ ++ shadeAll (between dim vectors) target id (drop (suc i) cs) (drop (suc i) fs₁) = rw add-one at e in
+        let e' : fs' ≡ take (suc i) fs₁ ++ shade_all (between dim vectors) target id (drop (suc i) cs) (drop (suc i) fs₁) = rw add-one at e in
         let more = then (degree - (taken + 1)) fs' (i + 1) in
         let o : then (degree - taken) fs i ≡ id ∷ more =
         ap (λ (z : ℕ). then z fs i) r
-        ∙ onward-take (between dim vectors) target fuel current cs fs nf i (degree - (taken + 1)) here (omega (arith, n)) at t fs' e' in
+        ∙ onward_take (between dim vectors) target fuel current cs fs nf i (degree - (taken + 1)) here (omega (arith, n)) at t fs' e' in
         let front : take (taken + 1) (set row taken id) ≡ take taken row ++ (id ∷ []) = rw add-one (take-suc-set row taken id (omega (arith, w.nr))) in
         record {
           le = omega arith;
@@ -116,7 +116,7 @@ module _ {dim : ℕ} {vectors ids dists : List ℕ} {target : Float} {degree : �
   module _ {current : Float} {all : List ℕ} {size : ℕ} {fs₀ : List Float} {row₀ : List ℕ} {taken₀ round : ℕ}
       (g : Going dim vectors ids dists target degree all size fs₀ row₀ current taken₀ round) where
     abbrev whole : List ℕ
-    whole = fromRound dim vectors ids dists target current degree round fs₀ row₀ taken₀
+    whole = from_round dim vectors ids dists target current degree round fs₀ row₀ taken₀
 
     abbrev Here : List Float → List ℕ → ℕ → ℕ → Type 0
     Here fs row taken i = Walk dim vectors ids dists target (8 - round) current degree whole (length row₀) fs row taken i
@@ -128,7 +128,7 @@ module _ {dim : ℕ} {vectors ids dists : List ℕ} {target : Float} {degree : �
     whole_is =
         let r : 9 - round ≡ suc (8 - round) = omega (arith, g.before) in
         let cs = items_of ids dists in
-        ap (λ (l : List ℕ). take taken₀ row₀ ++ l) (sym (onward-start (between dim vectors) target (8 - round) current (degree - taken₀) cs fs₀))
+        ap (λ (l : List ℕ). take taken₀ row₀ ++ l) (sym (onward_start (between dim vectors) target (8 - round) current (degree - taken₀) cs fs₀))
         ∙ ap (λ (k : ℕ). take taken₀ row₀ ++ rounds (between dim vectors) target k current (degree - taken₀) cs fs₀) (sym r)
         ∙ g.is
 
@@ -138,7 +138,7 @@ module _ {dim : ℕ} {vectors ids dists : List ℕ} {target : Float} {degree : �
       rest = still dim vectors ids dists target (8 - round) current (degree - taken) fs i
 
       abbrev after : ℕ → List ℕ
-      after k = rounds (between dim vectors) target k (nextAlpha target current) (degree - taken) (items_of ids dists) fs
+      after k = rounds (between dim vectors) target k (next_alpha target current) (degree - taken) (items_of ids dists) fs
 
       ended : rest ≡ [] → Taken row taken degree all
       ended e =
@@ -147,17 +147,17 @@ module _ {dim : ℕ} {vectors ids dists : List ℕ} {target : Float} {degree : �
       pub full : degree ≤ taken → Taken row taken degree all
       full h =
           let r : degree - taken ≡ 0 = omega arith in
-          ended (rw r (onward-full (between dim vectors) target (8 - round) current (items_of ids dists) fs i))
+          ended (rw r (onward_full (between dim vectors) target (8 - round) current (items_of ids dists) fs i))
 
       module _ (over : length ids ≤ i) where
         past : rest ≡ cond (above target current) (after (8 - round)) []
         past =
             let n = items-length ids dists same in
-            onward-end (between dim vectors) target (8 - round) current (items_of ids dists) fs (w.nf ∙ sym n) i (degree - taken) (omega (arith, n))
+            onward_end (between dim vectors) target (8 - round) current (items_of ids dists) fs (w.nf ∙ sym n) i (degree - taken) (omega (arith, n))
 
-        pub last-round : 9 ≤ round + 1 → Taken row taken degree all
+        pub last_round : 9 ≤ round + 1 → Taken row taken degree all
         unfolding rounds
-        last-round h =
+        last_round h =
             let r : 8 - round ≡ 0 = omega arith in
             ended (past ∙ ap (λ (k : ℕ). cond (above target current) (after k) []) r ∙ either (λ (l : List ℕ). l ≡ []) (above target current) refl refl)
 
@@ -166,7 +166,7 @@ module _ {dim : ℕ} {vectors ids dists : List ℕ} {target : Float} {degree : �
         reached t = ended (past ∙ rw t refl)
 
         pub again : round + 1 < 9 → lt current target ≡ true → length row₀ ≡ size
-            → Going dim vectors ids dists target degree all size fs row (nextAlpha target current) taken (round + 1)
+            → Going dim vectors ids dists target degree all size fs row (next_alpha target current) taken (round + 1)
         unfolding above
         again h t ns =
             let r : 8 - round ≡ 9 - (round + 1) = omega arith in

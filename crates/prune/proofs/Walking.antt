@@ -11,46 +11,46 @@ use lib.ListN.{length, get_or, take, drop, set, length-set, take-append-drop, dr
 use lib.Seq.{take-suc, take-suc-set, drop-set-lt, drop-cons, length-take-le, take_at, drop_at}
 use Rattle.definition.specs.Beam.{Item}
 use Rattle.definition.specs.Floats.{largest, above}
-use Rattle.definition.specs.Prune.{Round, skipOne, takeOne, round, rounds, shadeAll, nextAlpha}
+use Rattle.definition.specs.Prune.{Round, skip_one, take_one, round, rounds, shade_all, next_alpha}
 use Rattle.laws.specs.Truth.{either}
 
 module _ (pair : ℕ → ℕ → ℕ) (target : Float) (fuel : ℕ) (current : Float) where
   -- what a round leaves, after `front` factors, and the rounds that follow
   rest : ℕ → List Item → List Float → Round → List ℕ
   rest room cs front r =
-      r.took ++ cond (above target current) (rounds pair target fuel (nextAlpha target current) (room - length r.took) cs (front ++ r.factors)) []
+      r.took ++ cond (above target current) (rounds pair target fuel (next_alpha target current) (room - length r.took) cs (front ++ r.factors)) []
 
   -- what is taken from place i on
   pub onward : ℕ → List Item → List Float → ℕ → List ℕ
   onward room cs fs i = rest room cs (take i fs) (round pair target current room (drop i cs) (drop i fs))
 
-  pub onward-start : (room : ℕ) (cs : List Item) (fs : List Float) → rounds pair target (suc fuel) current room cs fs ≡ onward room cs fs 0
+  pub onward_start : (room : ℕ) (cs : List Item) (fs : List Float) → rounds pair target (suc fuel) current room cs fs ≡ onward room cs fs 0
   unfolding rounds onward rest
-  onward-start room cs fs =
+  onward_start room cs fs =
       let r = round pair target current room cs fs in
-      go (above target current) r.took (rounds pair target fuel (nextAlpha target current) (room - length r.took) cs r.factors)
+      go (above target current) r.took (rounds pair target fuel (next_alpha target current) (room - length r.took) cs r.factors)
     where
       go : (b : Bool) (t more : List ℕ) → cond b (t ++ more) t ≡ t ++ cond b more []
       go true t more = refl
       go false t more = sym (append-nil t)
 
   module _ (cs : List Item) (fs : List Float) (all : length fs ≡ length cs) (i : ℕ) where
-    pub onward-skip : (room : ℕ) (c : Item) → i < length cs → drop i cs ≡ c ∷ drop (suc i) cs → lt current (get_or fs i nan) ≡ true
+    pub onward_skip : (room : ℕ) (c : Item) → i < length cs → drop i cs ≡ c ∷ drop (suc i) cs → lt current (get_or fs i nan) ≡ true
         → onward (suc room) cs fs i ≡ onward (suc room) cs fs (i + 1)
-    unfolding round skipOne above onward rest
-    onward-skip room c h at t =
+    unfolding round skip_one above onward rest
+    onward_skip room c h at t =
         let hf : i < length fs = omega arith in
         let left = round pair target current (suc room) (drop (suc i) cs) (drop (suc i) fs) in
         rw (add-one i, at, drop-cons fs i nan hf, t, take-suc fs i nan hf, append_assoc (take i fs) (get_or fs i nan ∷ []) left.factors)
 
-    pub onward-take : (room : ℕ) (c : Item) → i < length cs → drop i cs ≡ c ∷ drop (suc i) cs → lt current (get_or fs i nan) ≡ false
-        → (fs' : List Float) → fs' ≡ take (suc i) (set fs i largest) ++ shadeAll pair target c.id (drop (suc i) cs) (drop (suc i) (set fs i largest))
+    pub onward_take : (room : ℕ) (c : Item) → i < length cs → drop i cs ≡ c ∷ drop (suc i) cs → lt current (get_or fs i nan) ≡ false
+        → (fs' : List Float) → fs' ≡ take (suc i) (set fs i largest) ++ shade_all pair target c.id (drop (suc i) cs) (drop (suc i) (set fs i largest))
         → onward (suc room) cs fs i ≡ c.id ∷ onward room cs fs' (i + 1)
-    unfolding round takeOne above onward rest
-    onward-take room c h at t fs' e =
+    unfolding round take_one above onward rest
+    onward_take room c h at t fs' e =
         let hf : i < length fs = omega arith in
         let fs₁ = set fs i largest in
-        let shaded = shadeAll pair target c.id (drop (suc i) cs) in
+        let shaded = shade_all pair target c.id (drop (suc i) cs) in
         let front : take (suc i) fs₁ ≡ take i fs ++ (largest ∷ []) = take-suc-set fs i largest hf in
         let back : drop (suc i) fs₁ ≡ drop (suc i) fs = drop-set-lt (suc i) fs i largest (omega arith) in
         let n : length (take (suc i) fs₁) ≡ suc i = length-take-le (suc i) fs₁ (omega (arith, length-set fs i largest)) in
@@ -68,29 +68,29 @@ module _ (pair : ℕ → ℕ → ℕ) (target : Float) (fuel : ℕ) (current : F
           suc-sub-suc room (length left.took),
         )
 
-    pub onward-end : (room : ℕ) → length cs ≤ i
-        → onward room cs fs i ≡ cond (above target current) (rounds pair target fuel (nextAlpha target current) room cs fs) []
+    pub onward_end : (room : ℕ) → length cs ≤ i
+        → onward room cs fs i ≡ cond (above target current) (rounds pair target fuel (next_alpha target current) room cs fs) []
     unfolding round onward rest
-    onward-end room h = rw (drop_of_length-le cs h, sub-zero room, take-append-drop i fs) refl
+    onward_end room h = rw (drop_of_length-le cs h, sub-zero room, take-append-drop i fs) refl
 
 -- ---- a full row takes no more
 
-full-round : (pair : ℕ → ℕ → ℕ) (target current : Float) (cs : List Item) (fs : List Float) → (round pair target current 0 cs fs).took ≡ []
+full_round : (pair : ℕ → ℕ → ℕ) (target current : Float) (cs : List Item) (fs : List Float) → (round pair target current 0 cs fs).took ≡ []
 unfolding round
-full-round pair target current [] fs = refl
-full-round pair target current (c ∷ cs) [] = refl
-full-round pair target current (c ∷ cs) (f ∷ fs) = refl
+full_round pair target current [] fs = refl
+full_round pair target current (c ∷ cs) [] = refl
+full_round pair target current (c ∷ cs) (f ∷ fs) = refl
 
 module _ (pair : ℕ → ℕ → ℕ) (target : Float) where
-  full-rounds : (fuel : ℕ) (current : Float) (cs : List Item) (fs : List Float) → rounds pair target fuel current 0 cs fs ≡ []
+  full_rounds : (fuel : ℕ) (current : Float) (cs : List Item) (fs : List Float) → rounds pair target fuel current 0 cs fs ≡ []
   unfolding rounds
-  full-rounds zero current cs fs = refl
-  full-rounds (suc fuel) current cs fs =
-      rw (full-round pair target current cs fs)
-      (either (λ (l : List ℕ). l ≡ []) (above target current) (full-rounds fuel (nextAlpha target current) cs _) refl)
+  full_rounds zero current cs fs = refl
+  full_rounds (suc fuel) current cs fs =
+      rw (full_round pair target current cs fs)
+      (either (λ (l : List ℕ). l ≡ []) (above target current) (full_rounds fuel (next_alpha target current) cs _) refl)
 
-  pub onward-full : (fuel : ℕ) (current : Float) (cs : List Item) (fs : List Float) (i : ℕ) → onward pair target fuel current 0 cs fs i ≡ []
+  pub onward_full : (fuel : ℕ) (current : Float) (cs : List Item) (fs : List Float) (i : ℕ) → onward pair target fuel current 0 cs fs i ≡ []
   unfolding onward rest
-  onward-full fuel current cs fs i =
-      rw (full-round pair target current (drop i cs) (drop i fs))
-      (either (λ (l : List ℕ). l ≡ []) (above target current) (full-rounds fuel (nextAlpha target current) cs _) refl)
+  onward_full fuel current cs fs i =
+      rw (full_round pair target current (drop i cs) (drop i fs))
+      (either (λ (l : List ℕ). l ≡ []) (above target current) (full_rounds fuel (next_alpha target current) cs _) refl)

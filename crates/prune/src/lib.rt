@@ -2,13 +2,13 @@
 ghost use Rattle.std.specs.Prelude.{◌≡◌, ◌+◌, ◌*◌, ◌≤◌, length};
 ghost use Rattle.definition.specs.Floats.{larger};
 ghost use Rattle.definition.specs.Metric.{between};
-ghost use Rattle.definition.specs.Prune.{target_of, increment, nextAlpha, quotient, prunedFrom, prune};
+ghost use Rattle.definition.specs.Prune.{target_of, increment, next_alpha, quotient, pruned_from, prune};
 ghost use Rattle.whole.specs.Whole.{limit};
 ghost use Rattle.metric.specs.Exact.{VectorIn};
 ghost use Rattle.laws.specs.Paired.{items_of};
 ghost use Rattle.prune_pool.specs.Says.{Distinct};
 ghost use Rattle.table.specs.Rows.{Written, Stretched};
-ghost use Rattle.prune.specs.Says.{Measurable, shadedFrom, Shaded, roundsOf, Taken};
+ghost use Rattle.prune.specs.Says.{Measurable, shaded_from, Shaded, rounds_of, Taken};
 
 use metric::from_query;
 use prune_pool::choose;
@@ -33,7 +33,7 @@ fn increment_of(target: f32) -> f32
 
 // min(current x increment, target)
 fn next_alpha(target: f32, current: f32) -> f32
-    ensures { result ≡ nextAlpha target current }
+    ensures { result ≡ next_alpha target current }
 {
     let raised = current * increment_of(target);
     if target < raised { target } else { raised }
@@ -104,7 +104,7 @@ fn shade_later(
     requires factors_len { (length factors.old ≡ length ids.now) × (from ≤ length ids.now) }
     requires vector_in { VectorIn dim vectors.now taken }
     ensures { factors.new
-        ≡ shadedFrom dim vectors.now ids.now dists.now target taken from factors.old }
+        ≡ shaded_from dim vectors.now ids.now dists.now target taken from factors.old }
 {
     let at = taken * dim;
     let end = at + dim;
@@ -134,7 +134,7 @@ fn take_rounds(
     requires measurable { Measurable dim vectors.now ids.now dists.now }
     requires factors_len { (length factors.old ≡ length ids.now) × (degree ≤ length row.old) }
     ensures { Taken row.new result degree
-        (roundsOf dim vectors.now ids.now dists.now degree alpha factors.old) }
+        (rounds_of dim vectors.now ids.now dists.now degree alpha factors.old) }
 {
     let m = ids.len();
     let target = target_of(alpha);
@@ -184,7 +184,7 @@ fn write_pruned(
     requires measurable { Measurable dim vectors.now ids.now dists.now }
     requires factors_len { (length factors.old ≡ length ids.now) × (degree ≤ length row.old) }
     ensures { Written row.new result (length row.old)
-        (prunedFrom (between dim vectors.now) degree alpha (items_of ids.now dists.now)) }
+        (pruned_from (between dim vectors.now) degree alpha (items_of ids.now dists.now)) }
 {
     scratch::clear_floats(factors);
     let count = take_rounds(vectors, dim, ids, dists, factors, row, degree, alpha);

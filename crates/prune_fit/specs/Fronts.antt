@@ -8,10 +8,10 @@ use Rattle.laws.specs.Words.{Below}
 front_length : {A : Type 0} (l : List A) (r : ℕ) → r ≤ length l → length (take (r - 0) l) ≡ r
 front_length l r h = length-take (r - 0) l ∙ omega arith
 
-pub fronts-same : (list dists : List ℕ) (count : ℕ) → count ≤ length list → count ≤ length dists
+pub fronts_same : (list dists : List ℕ) (count : ℕ) → count ≤ length list → count ≤ length dists
     → length (take (count - 0) dists) ≡ length (take (count - 0) list)
-fronts-same list dists count a b = front_length dists count b ∙ sym (front_length list count a)
+fronts_same list dists count a b = front_length dists count b ∙ sym (front_length list count a)
 
 -- what is said of each member, said of each place
-pub members-below : (n : ℕ) (xs : List ℕ) → ((z : ℕ) → Mem z xs → z < n) → Below n xs
-members-below n xs f k h = f (get_or xs k 0) (mem-at 0 xs k h)
+pub members_below : (n : ℕ) (xs : List ℕ) → ((z : ℕ) → Mem z xs → z < n) → Below n xs
+members_below n xs f k h = f (get_or xs k 0) (mem-at 0 xs k h)

@@ -2,7 +2,7 @@
 ghost use Rattle.std.specs.Prelude.{◌≡◌, ℕ, ◌+◌, ◌*◌, ◌≤◌, ◌<◌, length, get_or};
 ghost use Rattle.definition.specs.Metric.{between};
 ghost use Rattle.metric.specs.Exact.{VectorIn, Distances};
-ghost use Rattle.scratch.specs.Layout.{mostFactors};
+ghost use Rattle.scratch.specs.Layout.{most_factors};
 ghost use Rattle.given.specs.Given.{given};
 ghost use Rattle.prune_fit.specs.Fits.{Fittable, Fitted};
 
@@ -32,7 +32,7 @@ pub fn fit_row(
     factors: &mut [f32],
 )
     requires fittable { Fittable (given g vectors.now) node width ids.now }
-    requires dists_len { (length dists.old ≡ length ids.now) × (mostFactors ≤ length factors.old) × (node * width + width ≤ length table.old) }
+    requires dists_len { (length dists.old ≡ length ids.now) × (most_factors ≤ length factors.old) × (node * width + width ≤ length table.old) }
     ensures { Fitted (given g vectors.now) node width ids.now table.old table.new }
 {
     let place = table::index_of(node);

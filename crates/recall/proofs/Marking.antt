@@ -9,12 +9,12 @@ use borrow.Author.Tests.{eqb-true, eqb-false, eq-eqb, ne_eqb}
 use lib.Dec.{eqb}
 use lib.ListN.{length, get_or, take, set, length-set}
 use lib.Seq.{take-suc, get_or-set_same, get_or-set_other}
-use Rattle.definition.specs.Lists.{keep, isIn}
-use Rattle.definition.specs.Recall.{inBoth}
+use Rattle.definition.specs.Lists.{keep, is_in}
+use Rattle.definition.specs.Recall.{in_both}
 use Rattle.laws.specs.Truth.{decide}
-use Rattle.laws.specs.Members.{isIn-snoc}
+use Rattle.laws.specs.Members.{is_in_snoc}
 use Rattle.laws.specs.Sums.{bit}
-use Rattle.theory.specs.recall.Brought.{both-snoc}
+use Rattle.theory.specs.recall.Brought.{both_snoc}
 use Rattle.recall.specs.Marks.{Unmarked, MarksOf, Counted}
 
 -- ---- marking: the first j ids have theirs
@@ -22,14 +22,14 @@ pub record Marking (epoch : ℕ) (ids words₀ : List ℕ) (j : ℕ) (words : Li
   pub size : length words ≡ length words₀
   pub marks : MarksOf epoch (take j ids) words
 
-pub mark-start : (epoch : ℕ) (ids words : List ℕ) → Unmarked epoch words → Marking epoch ids words 0 words
-unfolding isIn
-mark-start epoch ids words u =
+pub mark_start : (epoch : ℕ) (ids words : List ℕ) → Unmarked epoch words → Marking epoch ids words 0 words
+unfolding is_in
+mark_start epoch ids words u =
     record {
       size = refl;
       marks = record {
         seen = λ i h. ne_eqb (get_or words i 0) epoch (λ e. omega (arith, u.below_at i h));
-        marks-le = λ i h. omega (arith, u.below_at i h);
+        marks_le = λ i h. omega (arith, u.below_at i h);
       };
     }
 
@@ -38,8 +38,8 @@ module _ (epoch : ℕ) (ids words₀ words : List ℕ) (j : ℕ) (fits : j < len
   front : take (j + 1) ids ≡ take j ids ++ (get_or ids j 0 ∷ [])
   front = ap (λ (k : ℕ). take k ids) (add-one j) ∙ take-suc ids j 0 fits
 
-  among : (i : ℕ) → isIn i (take (j + 1) ids) ≡ (isIn i (take j ids) || eqb i at)
-  among i = ap (isIn i) front ∙ isIn-snoc i (take j ids) (get_or ids j 0) ∙ ap (λ (k : ℕ). isIn i (take j ids) || eqb i k) (sym names)
+  among : (i : ℕ) → is_in i (take (j + 1) ids) ≡ (is_in i (take j ids) || eqb i at)
+  among i = ap (is_in i) front ∙ is_in_snoc i (take j ids) (get_or ids j 0) ∙ ap (λ (k : ℕ). is_in i (take j ids) || eqb i k) (sym names)
 
   abbrev after : List ℕ
   after = set words at epoch
@@ -50,16 +50,16 @@ module _ (epoch : ℕ) (ids words₀ words : List ℕ) (j : ℕ) (fits : j < len
   other : (i : ℕ) → eqb i at ≡ false → get_or after i 0 ≡ get_or words i 0
   other i e = get_or-set_other words at i epoch 0 (eqb-false i at e)
 
-  pub mark-more : Marking epoch ids words₀ (j + 1) after
-  mark-more =
+  pub mark_more : Marking epoch ids words₀ (j + 1) after
+  mark_more =
       record {
         size = size ∙ m.size;
         marks = record {
           seen = λ i h. decide (eqb i at)
               (λ e. rw (among i, e, or-true) (eq-eqb (get_or after i 0) epoch (own i (omega (arith, size)) e)))
               (λ e. rw (among i, e, or-false) (ap (λ (z : ℕ). eqb z epoch) (other i e) ∙ m.marks.seen i (omega (arith, size))));
-          marks-le = λ i h. decide (eqb i at) (λ e. omega (arith, own i (omega (arith, size)) e))
-              (λ e. omega (arith, other i e, m.marks.marks-le i (omega (arith, size))));
+          marks_le = λ i h. decide (eqb i at) (λ e. omega (arith, own i (omega (arith, size)) e))
+              (λ e. omega (arith, other i e, m.marks.marks_le i (omega (arith, size))));
         };
       }
     where
@@ -68,13 +68,13 @@ module _ (epoch : ℕ) (ids words₀ words : List ℕ) (j : ℕ) (fits : j < len
 
 -- ---- counting: r of the first j ids have the epoch as their mark
 pub count-start : (epoch : ℕ) (words : List ℕ) → Counted epoch words [] 0
-unfolding inBoth keep
+unfolding in_both keep
 count-start epoch words = record { is = λ ys m. refl }
 
 module _ (epoch : ℕ) (words ids : List ℕ) (j r : ℕ) (fits : j < length ids) (inside : get_or ids j 0 < length words) where
-  pub count-more : (x : ℕ) → x ≡ bit (eqb (get_or words (get_or ids j 0) 0) epoch) → Counted epoch words (take j ids) r
+  pub count_more : (x : ℕ) → x ≡ bit (eqb (get_or words (get_or ids j 0) 0) epoch) → Counted epoch words (take j ids) r
       → Counted epoch words (take (j + 1) ids) (r + x)
-  count-more x e c =
+  count_more x e c =
       record {
-        is = λ ys m. rw (add-one j, take-suc ids j 0 fits, both-snoc) (omega (arith, c.is ys m, e, ap bit (m (get_or ids j 0) inside)));
+        is = λ ys m. rw (add-one j, take-suc ids j 0 fits, both_snoc) (omega (arith, c.is ys m, e, ap bit (m (get_or ids j 0) inside)));
       }

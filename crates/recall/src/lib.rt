@@ -3,9 +3,9 @@
 // answers those are counted whose mark it is. So no list is held against another, and nothing here knows in what order answers stand.
 
 ghost use Rattle.std.specs.Prelude.{◌≡◌, [], ◌+◌, ◌≤◌, ◌<◌, eqb, length, take};
-ghost use Rattle.definition.specs.Outcome.{queryCount, askedEach, reportDone, ReportMeets};
+ghost use Rattle.definition.specs.Outcome.{query_count, asked_each, report_done, ReportMeets};
 ghost use Rattle.laws.specs.Sums.{bit};
-ghost use Rattle.theory.specs.build.Walks.{epochEnd};
+ghost use Rattle.theory.specs.build.Walks.{epoch_end};
 ghost use Rattle.accepted.specs.Recall.{ReportAccepted};
 ghost use Rattle.marks.specs.Marked.{Marks};
 ghost use Rattle.recall.specs.Marks.{Places, Unmarked, MarksOf, Counted, CountedBoth};
@@ -107,7 +107,7 @@ fn one_query(
     apart: &mut [f32],
 ) -> Brought
     requires query_accepted { QueryAccepted (call_of a vectors.now table.now query.now words.old []) ids.old dists.old near.old apart.old }
-    requires epoch_bound { (epoch + 2 < epochEnd) × Marks a.n words.old epoch }
+    requires epoch_bound { (epoch + 2 < epoch_end) × Marks a.n words.old epoch }
     ensures { Recalled
         (call_of a vectors.now table.now query.now words.old [])
         epoch words.new result }
@@ -141,8 +141,8 @@ fn all_queries(
     words: &mut [u32],
 ) -> Tally
     requires queries_accepted { QueriesAccepted (call_of a vectors.now table.now queries.now words.old []) }
-    requires count_value { count ≡ queryCount (call_of a vectors.now table.now queries.now words.old []) }
-    requires each_value { each ≡ askedEach (call_of a vectors.now table.now queries.now words.old []) }
+    requires count_value { count ≡ query_count (call_of a vectors.now table.now queries.now words.old []) }
+    requires each_value { each ≡ asked_each (call_of a vectors.now table.now queries.now words.old []) }
     ensures { Tallied
         (call_of a vectors.now table.now queries.now words.old [])
         count words.new result }
@@ -185,7 +185,7 @@ fn report_accepted(
 ) -> Report
     requires { ReportAccepted (call_of a vectors.now table.now queries.now words.old floats.old) }
     ensures { out_of result words.new floats.new
-        ≡ reportDone (call_of a vectors.now table.now queries.now words.old floats.old) }
+        ≡ report_done (call_of a vectors.now table.now queries.now words.old floats.old) }
 {
     let n = a.n;
     let count = queries.len() / a.dim;

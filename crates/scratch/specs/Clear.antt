@@ -6,13 +6,13 @@ use Rattle.std.specs.Float.Ieee.{of_bits}
 use Rattle.std.specs.Float.{binary32}
 use Rattle.definition.specs.Lists.{cleared}
 use Rattle.definition.specs.Floats.{nought}
-use Rattle.definition.specs.Refusals.{buildWords, buildFloats}
-use Rattle.scratch.specs.Layout.{freshEnd, floatsEnd}
+use Rattle.definition.specs.Refusals.{build_words, build_floats}
+use Rattle.scratch.specs.Layout.{fresh_end, floats_end}
 
 -- the first w words and f floats are 0, what lies beyond is untouched
 pub record FrontClear (w f : ℕ) (words₀ : List ℕ) (floats₀ : List Float) (words : List ℕ) (floats : List Float) : Type 0 where
   pub words_are : words ≡ cleared 0 w words₀
-  pub floats-are : floats ≡ cleared nought f floats₀
+  pub floats_are : floats ≡ cleared nought f floats₀
 
 -- a front that came back all z
 put-cleared : {A : Type 0} (z : A) (room : ℕ) (l front : List A) → room ≤ length l → front ≡ replicate (length (take (room - 0) l)) z → front ++ drop (room - 0) l ≡ cleared z room l
@@ -25,18 +25,18 @@ put-cleared {A} z room l front h e =
 pub front-clear : (w f : ℕ) (words : List ℕ) (floats : List Float) (ws : List ℕ) (fs : List Float) → w ≤ length words → f ≤ length floats → ws ≡ replicate (length (take (w - 0) words)) 0
     → fs ≡ replicate (length (take (f - 0) floats)) (of_bits binary32 0) → FrontClear w f words floats (put_mid 0 (w - 0) words ws) (put_mid 0 (f - 0) floats fs)
 unfolding nought
-front-clear w f words floats ws fs hw hf ew ef = record { words_are = put-cleared 0 w words ws hw ew; floats-are = put-cleared (of_bits binary32 0) f floats fs hf ef }
+front-clear w f words floats ws fs hw hf ew ef = record { words_are = put-cleared 0 w words ws hw ew; floats_are = put-cleared (of_bits binary32 0) f floats fs hf ef }
 
 -- the room of a build call, against any lists, as those at the call's entry, that are the same beyond the room
 pub record RoomClear (n : ℕ) (words₀ : List ℕ) (floats₀ : List Float) (words : List ℕ) (floats : List Float) : Type 0 where
-  pub words_are : (from : List ℕ) → drop (freshEnd n) words₀ ≡ drop (freshEnd n) from → words ≡ cleared 0 (buildWords n) from
-  pub floats-are : (from : List Float) → drop (floatsEnd n) floats₀ ≡ drop (floatsEnd n) from → floats ≡ cleared nought (buildFloats n) from
+  pub words_are : (from : List ℕ) → drop (fresh_end n) words₀ ≡ drop (fresh_end n) from → words ≡ cleared 0 (build_words n) from
+  pub floats_are : (from : List Float) → drop (floats_end n) floats₀ ≡ drop (floats_end n) from → floats ≡ cleared nought (build_floats n) from
 
-pub room-clear : (n w f : ℕ) (words₀ : List ℕ) (floats₀ : List Float) (words : List ℕ) (floats : List Float) → w ≡ freshEnd n → f ≡ floatsEnd n
+pub room-clear : (n w f : ℕ) (words₀ : List ℕ) (floats₀ : List Float) (words : List ℕ) (floats : List Float) → w ≡ fresh_end n → f ≡ floats_end n
     → FrontClear w f words₀ floats₀ words floats → RoomClear n words₀ floats₀ words floats
-unfolding buildWords buildFloats cleared
+unfolding build_words build_floats cleared
 room-clear n w f words₀ floats₀ words floats we fe c =
     record {
-      words_are = λ from q. c.words_are ∙ ap (λ (k : ℕ). cleared 0 k words₀) we ∙ ap (λ (l : List ℕ). replicate (freshEnd n) 0 ++ l) q;
-      floats-are = λ from q. c.floats-are ∙ ap (λ (k : ℕ). cleared nought k floats₀) fe ∙ ap (λ (l : List Float). replicate (floatsEnd n) nought ++ l) q;
+      words_are = λ from q. c.words_are ∙ ap (λ (k : ℕ). cleared 0 k words₀) we ∙ ap (λ (l : List ℕ). replicate (fresh_end n) 0 ++ l) q;
+      floats_are = λ from q. c.floats_are ∙ ap (λ (k : ℕ). cleared nought k floats₀) fe ∙ ap (λ (l : List Float). replicate (floats_end n) nought ++ l) q;
     }

@@ -2,8 +2,8 @@
 ghost use Rattle.std.specs.Prelude.{◌≡◌, ◌+◌, ◌*◌, ◌≤◌, ◌<◌, length, replicate};
 ghost use Rattle.std.specs.Float.Ieee.{of_bits};
 ghost use Rattle.std.specs.Float.{binary32};
-ghost use Rattle.scratch.specs.Layout.{visitedAt, visitedDistsAt, poolAt, stampsAt, poolDistsAt, poolEnd, headsAt, seatsAt, linksAt};
-ghost use Rattle.scratch.specs.Layout.{freshAt, freshRowAt, freshEnd, searchEnd, reportEnd, floatsEnd};
+ghost use Rattle.scratch.specs.Layout.{visited_at, visited_dists_at, pool_at, stamps_at, pool_dists_at, pool_end, heads_at, seats_at, links_at};
+ghost use Rattle.scratch.specs.Layout.{fresh_at, fresh_row_at, fresh_end, search_end, report_end, floats_end};
 ghost use Rattle.scratch.specs.Clear.{FrontClear, RoomClear};
 
 // The slack of the greatest degree: no row of a table has more words.
@@ -23,14 +23,14 @@ pub const REPORT_FLOATS: usize = 1024;
 // Words of a walk that keeps what it visits: marks from 0, the ids, their distances.
 pub fn visited_at(n: usize) -> usize
     requires { n ≤ 65536 }
-    ensures { result ≡ visitedAt n }
+    ensures { result ≡ visited_at n }
 {
     n + 1
 }
 
 pub fn visited_dists_at(n: usize) -> usize
     requires { n ≤ 65536 }
-    ensures { result ≡ visitedDistsAt n }
+    ensures { result ≡ visited_dists_at n }
 {
     2 * n + 256
 }
@@ -38,28 +38,28 @@ pub fn visited_dists_at(n: usize) -> usize
 // Words of a pool: its ids, its stamps, its distances.
 pub fn pool_at(n: usize) -> usize
     requires { n ≤ 65536 }
-    ensures { result ≡ poolAt n }
+    ensures { result ≡ pool_at n }
 {
     3 * n + 256
 }
 
 pub fn stamps_at(n: usize) -> usize
     requires { n ≤ 65536 }
-    ensures { result ≡ stampsAt n }
+    ensures { result ≡ stamps_at n }
 {
     4 * n + 256
 }
 
 pub fn pool_dists_at(n: usize) -> usize
     requires { n ≤ 65536 }
-    ensures { result ≡ poolDistsAt n }
+    ensures { result ≡ pool_dists_at n }
 {
     5 * n + 256
 }
 
 pub fn pool_end(n: usize) -> usize
     requires { n ≤ 65536 }
-    ensures { result ≡ poolEnd n }
+    ensures { result ≡ pool_end n }
 {
     6 * n + 256
 }
@@ -67,21 +67,21 @@ pub fn pool_end(n: usize) -> usize
 // Words of the merge, behind the marks: heads, seats, links.
 pub fn heads_at(n: usize) -> usize
     requires { n ≤ 65536 }
-    ensures { result ≡ headsAt n }
+    ensures { result ≡ heads_at n }
 {
     n
 }
 
 pub fn seats_at(n: usize) -> usize
     requires { n ≤ 65536 }
-    ensures { result ≡ seatsAt n }
+    ensures { result ≡ seats_at n }
 {
     2 * n
 }
 
 pub fn links_at(n: usize) -> usize
     requires { n ≤ 65536 }
-    ensures { result ≡ linksAt n }
+    ensures { result ≡ links_at n }
 {
     3 * n
 }
@@ -89,14 +89,14 @@ pub fn links_at(n: usize) -> usize
 // The fresh rows, and the p-th of them.
 pub fn fresh_at(n: usize) -> usize
     requires { n ≤ 65536 }
-    ensures { result ≡ freshAt n }
+    ensures { result ≡ fresh_at n }
 {
     6 * n + 16384
 }
 
 pub fn fresh_row_at(n: usize, p: usize) -> usize
     requires { (n ≤ 65536) × (p < 256) }
-    ensures { result ≡ freshRowAt n p }
+    ensures { result ≡ fresh_row_at n p }
 {
     6 * n + 16384 + 64 * p
 }
@@ -104,14 +104,14 @@ pub fn fresh_row_at(n: usize, p: usize) -> usize
 // Where the words of a search end, and those of a report.
 pub fn search_end(n: usize) -> usize
     requires { n ≤ 65536 }
-    ensures { result ≡ searchEnd n }
+    ensures { result ≡ search_end n }
 {
     n + 512
 }
 
 pub fn report_end(n: usize) -> usize
     requires { n ≤ 65536 }
-    ensures { result ≡ reportEnd n }
+    ensures { result ≡ report_end n }
 {
     n + 1024
 }
@@ -119,14 +119,14 @@ pub fn report_end(n: usize) -> usize
 // Where the room of a batch, close or whole build ends, in words and in floats.
 pub fn fresh_end(n: usize) -> usize
     requires { n ≤ 65536 }
-    ensures { result ≡ freshEnd n }
+    ensures { result ≡ fresh_end n }
 {
     6 * n + 32768
 }
 
 pub fn floats_end(n: usize) -> usize
     requires { n ≤ 65536 }
-    ensures { result ≡ floatsEnd n }
+    ensures { result ≡ floats_end n }
 {
     4 * n + 1024
 }
@@ -164,7 +164,7 @@ pub fn clear_front(words: &mut [u32], floats: &mut [f32], w: usize, f: usize)
 
 // The room of a batch, close or whole build becomes 0.
 pub fn clear_room(n: usize, words: &mut [u32], floats: &mut [f32])
-    requires { (n ≤ 65536) × (freshEnd n ≤ length words.old) × (floatsEnd n ≤ length floats.old) }
+    requires { (n ≤ 65536) × (fresh_end n ≤ length words.old) × (floats_end n ≤ length floats.old) }
     ensures { RoomClear n words.old floats.old words.new floats.new }
 {
     let w = fresh_end(n);

@@ -5,49 +5,49 @@ use Rattle.std.proofs.Common.{◌∙◌, length-take}
 use mathlib.Core.List.{List, []}
 use Rattle.std.proofs.Math.ListN.{take}
 use Rattle.definition.specs.Lists.{over, sort, cleared}
-use Rattle.definition.specs.Metric.{fromQuery}
+use Rattle.definition.specs.Metric.{from_query}
 use Rattle.definition.specs.Tables.{row}
 use Rattle.definition.specs.Beam.{Item}
 use Rattle.definition.specs.Greedy.{State, greedy}
 use Rattle.definition.specs.Floats.{nought}
-use Rattle.definition.specs.Search.{listedFirst, ranked, searched, answers}
-use Rattle.definition.specs.Refusals.{SearchCall, searchWords, searchFloats, mostAnswers}
-use Rattle.definition.specs.Outcome.{found, walked, foundIds, foundDists}
-use Rattle.laws.specs.Backwards.{take-least}
+use Rattle.definition.specs.Search.{listed_first, ranked, searched, answers}
+use Rattle.definition.specs.Refusals.{SearchCall, search_words, search_floats, most_answers}
+use Rattle.definition.specs.Outcome.{found, walked, found_ids, found_dists}
+use Rattle.laws.specs.Backwards.{take_least}
 use Rattle.laws.specs.Parts.{Within}
-use Rattle.laws.specs.Sorting.{length-sort}
-use Rattle.laws.specs.Sorted.{sort-rev}
-use Rattle.laws.specs.Items.{ids_of, listed-order}
+use Rattle.laws.specs.Sorting.{length_sort}
+use Rattle.laws.specs.Sorted.{sort_rev}
+use Rattle.laws.specs.Items.{ids_of, listed_order}
 use Rattle.scratch.specs.Lent.{Lent}
-use Rattle.scratch.specs.Layout.{visitedAt}
+use Rattle.scratch.specs.Layout.{visited_at}
 use Rattle.accepted.specs.Search.{SearchAccepted as Accepted}
 use Rattle.marks.specs.Marked.{Marks}
 use Rattle.kept.specs.Says.{Tells}
-use Rattle.listing.specs.Listed.{Pairs, pairs, items_in, distsOf, Listed}
+use Rattle.listing.specs.Listed.{Pairs, pairs, items_in, dists_of, Listed}
 use Rattle.search.specs.declared.Found.{Found}
 
 -- the stated room is zero, what lies beyond it untouched
 pub record Wiped (n : ℕ) (before after : Lent) : Type 0 where
-  pub words_are : after.words ≡ cleared 0 (searchWords n) before.words
-  pub floats-are : after.floats ≡ cleared nought searchFloats before.floats
+  pub words_are : after.words ≡ cleared 0 (search_words n) before.words
+  pub floats_are : after.floats ≡ cleared nought search_floats before.floats
 
 -- what a walk asks of its call: as an accepted search, but of the words only room for the marks, and nothing of the floats
 pub record Walkable (c : SearchCall) : Type 0 where
-  pub dim-few : c.dim ≤ 256
+  pub dim_few : c.dim ≤ 256
   pub nodes : c.n ≤ 65536
-  pub vectors-are : length c.vectors ≡ c.n * c.dim
-  pub degree-few : c.degree ≤ 64
-  pub beam-few : c.beam ≤ 256
-  pub start-in : c.start < c.n
+  pub vectors_are : length c.vectors ≡ c.n * c.dim
+  pub degree_few : c.degree ≤ 64
+  pub beam_few : c.beam ≤ 256
+  pub start_in : c.start < c.n
   pub table_is : length c.table ≡ c.n * c.degree
-  pub word_room : visitedAt c.n ≤ length c.words
-  pub id-room : mostAnswers c.beam c.k ≤ length c.ids
-  pub dist-room : mostAnswers c.beam c.k ≤ length c.dists
-  pub query-is : length c.query ≡ c.dim
+  pub word_room : visited_at c.n ≤ length c.words
+  pub id_room : most_answers c.beam c.k ≤ length c.ids
+  pub dist_room : most_answers c.beam c.k ≤ length c.dists
+  pub query_is : length c.query ≡ c.dim
 
 -- the call with other words, and no floats
-abbrev pub onWords : SearchCall → List ℕ → SearchCall
-onWords c words =
+abbrev pub on_words : SearchCall → List ℕ → SearchCall
+on_words c words =
     record {
       n = c.n;
       dim = c.dim;
@@ -64,66 +64,66 @@ onWords c words =
       dists = c.dists;
     }
 
-pub accepted-walkable : (c : SearchCall) → Accepted c → (words : List ℕ) → visitedAt c.n ≤ length words → Walkable (onWords c words)
-accepted-walkable c a words room =
+pub accepted_walkable : (c : SearchCall) → Accepted c → (words : List ℕ) → visited_at c.n ≤ length words → Walkable (on_words c words)
+accepted_walkable c a words room =
     record {
-      dim-few = a.dim-few;
+      dim_few = a.dim_few;
       nodes = a.nodes;
-      vectors-are = a.vectors-are;
-      degree-few = a.degree-few;
-      beam-few = a.beam-few;
-      start-in = a.start-in;
+      vectors_are = a.vectors_are;
+      degree_few = a.degree_few;
+      beam_few = a.beam_few;
+      start_in = a.start_in;
       table_is = a.table_is;
       word_room = room;
-      id-room = a.id-room;
-      dist-room = a.dist-room;
-      query-is = a.query-is;
+      id_room = a.id_room;
+      dist_room = a.dist_room;
+      query_is = a.query_is;
     }
 
 -- what one walk leaves: its answers, its counts, and marks that are at most its epoch
 pub record Answered (c : SearchCall) (epoch : ℕ) (after : List ℕ) (outs : Pairs) (r : Found) : Type 0 where
-  pub epoch-is : r.epoch ≡ epoch + 1
-  pub count-is : r.count ≡ length (found c)
-  pub few : r.count ≤ mostAnswers c.beam c.k
-  pub expanded-is : r.expanded ≡ length (walked c).expanded
-  pub measured-is : r.measured ≡ length (walked c).visited
-  pub ids-are : outs.ids ≡ over (foundIds c) c.ids
-  pub dists-are : outs.dists ≡ over (foundDists c) c.dists
+  pub epoch_is : r.epoch ≡ epoch + 1
+  pub count_is : r.count ≡ length (found c)
+  pub few : r.count ≤ most_answers c.beam c.k
+  pub expanded_is : r.expanded ≡ length (walked c).expanded
+  pub measured_is : r.measured ≡ length (walked c).visited
+  pub ids_are : outs.ids ≡ over (found_ids c) c.ids
+  pub dists_are : outs.dists ≡ over (found_dists c) c.dists
   pub marks : Marks c.n after r.epoch
-  pub kept : Within 0 (visitedAt c.n) c.words after
+  pub kept : Within 0 (visited_at c.n) c.words after
 
 -- ---- the answers, from what the keys tell of the work
 -- the state that the walk comes to
 abbrev pub state_of : SearchCall → State
-state_of c = greedy (fromQuery c.dim c.vectors c.query) (row c.degree c.table) c.n (max c.beam 1) c.start
+state_of c = greedy (from_query c.dim c.vectors c.query) (row c.degree c.table) c.n (max c.beam 1) c.start
 
-pub walked-is : (c : SearchCall) → walked c ≡ state_of c
+pub walked_is : (c : SearchCall) → walked c ≡ state_of c
 unfolding walked searched
-walked-is c = refl
+walked_is c = refl
 
 module _ (c : SearchCall) (keys : List ℕ) (len : ℕ) (h : Tells keys len (state_of c).work) (count : ℕ) (least : count ≡ min c.k len) where
   abbrev work : List Item
   work = (state_of c).work
 
-  least-sorted : count ≡ min c.k (length (sort listedFirst work))
-  least-sorted = least ∙ ap (min c.k) (sym (length-sort listedFirst work ∙ h.size))
+  least_sorted : count ≡ min c.k (length (sort listed_first work))
+  least_sorted = least ∙ ap (min c.k) (sym (length_sort listed_first work ∙ h.size))
 
   -- a sort does not turn on the order in which the keys hold the work
-  found-ranked : ranked count (items_in keys len) ≡ found c
+  found_ranked : ranked count (items_in keys len) ≡ found c
   unfolding found answers ranked searched
-  found-ranked =
-      ap (λ (l : List Item). take count (sort listedFirst l)) h.items-are ∙ ap (take count) (sort-rev listed-order work)
-      ∙ take-least c.k count (sort listedFirst work) least-sorted
+  found_ranked =
+      ap (λ (l : List Item). take count (sort listed_first l)) h.items_are ∙ ap (take count) (sort_rev listed_order work)
+      ∙ take_least c.k count (sort listed_first work) least_sorted
 
-  pub found-count : count ≡ length (found c)
+  pub found_count : count ≡ length (found c)
   unfolding found answers ranked searched
-  found-count = least-sorted ∙ sym (length-take c.k (sort listedFirst work))
+  found_count = least_sorted ∙ sym (length-take c.k (sort listed_first work))
 
   module _ (outs : Pairs) (l : Listed (ranked count (items_in keys len)) (pairs c.ids c.dists) outs) where
-    pub found-ids : outs.ids ≡ over (foundIds c) c.ids
-    unfolding foundIds
-    found-ids = l.ids-are ∙ ap (λ (a : List Item). over (ids_of a) c.ids) found-ranked
+    pub found_ids_lem : outs.ids ≡ over (found_ids c) c.ids
+    unfolding found_ids
+    found_ids_lem = l.ids_are ∙ ap (λ (a : List Item). over (ids_of a) c.ids) found_ranked
 
-    pub found-dists : outs.dists ≡ over (foundDists c) c.dists
-    unfolding foundDists
-    found-dists = l.dists-are ∙ ap (λ (a : List Item). over (distsOf a) c.dists) found-ranked
+    pub found_dists_lem : outs.dists ≡ over (found_dists c) c.dists
+    unfolding found_dists
+    found_dists_lem = l.dists_are ∙ ap (λ (a : List Item). over (dists_of a) c.dists) found_ranked

@@ -2,10 +2,10 @@
 // table whose words nobody looks at before.
 
 ghost use Rattle.std.specs.Prelude.{◌≡◌, [], ◌+◌, ◌≤◌, ◌<◌, max, length};
-ghost use Rattle.definition.specs.Outcome.{SearchMeets, cleanedCall, LookupMeets, fitOut};
-ghost use Rattle.theory.specs.build.Walks.{epochEnd};
+ghost use Rattle.definition.specs.Outcome.{SearchMeets, cleaned_call, LookupMeets, fit_out};
+ghost use Rattle.theory.specs.build.Walks.{epoch_end};
 ghost use Rattle.scratch.specs.Lent.{lent};
-ghost use Rattle.scratch.specs.Layout.{searchEnd, searchFloatsEnd};
+ghost use Rattle.scratch.specs.Layout.{search_end, search_floats_end};
 ghost use Rattle.accepted.specs.Search.{SearchAccepted as Accepted};
 ghost use Rattle.checks_number.specs.SearchNumber.{call_of};
 ghost use Rattle.marks.specs.Marked.{Marks};
@@ -52,10 +52,10 @@ pub fn walk_answers(
     ids: &mut [u32],
     dists: &mut [f32],
 ) -> Found
-    requires walkable { Walkable (cleanedCall (call_of n dim vectors.now degree beam k start table.now query.now words.old [] ids.old dists.old)) }
-    requires epoch_bound { (epoch + 1 < epochEnd) × Marks n words.old epoch }
+    requires walkable { Walkable (cleaned_call (call_of n dim vectors.now degree beam k start table.now query.now words.old [] ids.old dists.old)) }
+    requires epoch_bound { (epoch + 1 < epoch_end) × Marks n words.old epoch }
     ensures { Answered
-        (cleanedCall (call_of n dim vectors.now degree beam k start table.now query.now
+        (cleaned_call (call_of n dim vectors.now degree beam k start table.now query.now
         words.old [] ids.old dists.old))
         epoch words.new (pairs ids.new dists.new) result }
 {
@@ -81,7 +81,7 @@ pub fn walk_answers(
 
 // The stated room becomes zero.
 fn wipe(words: &mut [u32], floats: &mut [f32], n: usize)
-    requires { (n ≤ 65536) × (searchEnd n ≤ length words.old) × (searchFloatsEnd ≤ length floats.old) }
+    requires { (n ≤ 65536) × (search_end n ≤ length words.old) × (search_floats_end ≤ length floats.old) }
     ensures { Wiped n (lent words.old floats.old) (lent words.new floats.new) }
 {
     let w = scratch::search_end(n);
@@ -105,10 +105,10 @@ pub fn lookup_accepted(
     ids: &mut [u32],
     dists: &mut [f32],
 ) -> Found
-    requires { Accepted (cleanedCall
+    requires { Accepted (cleaned_call
         (call_of n dim vectors.now degree beam k start table.now query.now words.old floats.old ids.old dists.old)) }
     ensures { Searched
-        (cleanedCall (call_of n dim vectors.now degree beam k start table.now query.now
+        (cleaned_call (call_of n dim vectors.now degree beam k start table.now query.now
         words.old floats.old ids.old dists.old))
         (out_of (answer_of result) words.new floats.new ids.new dists.new) }
 {
@@ -268,7 +268,7 @@ pub fn lookup(
 
 // The number that a search would give for its table: a table that is searched many times is asked once, and `lookup` then answers as `search` does.
 pub fn fit(n: usize, degree: usize, table: &[u32]) -> Answer
-    ensures { result ≡ fitOut (record { n = n; degree = degree; table = table.now }) }
+    ensures { result ≡ fit_out (record { n = n; degree = degree; table = table.now }) }
 {
     let number = checks_number::fit_number(n, degree, table);
     answers::refused(number)

@@ -5,14 +5,14 @@
 // read. That the count which `read_text` gave is the count that is answered, and that it is written, is seen by running it: seek, seek_longest, seek_longer.
 
 ghost use Rattle.std.specs.Prelude.{◌≡◌, ◌≤◌, ◌<◌, length, take};
-ghost use Rattle.definition.specs.Seek.{mostInput, seek};
+ghost use Rattle.definition.specs.Seek.{most_input, seek};
 ghost use Rattle.seek_input.specs.Streams.{TextRead};
 
 use libc::{STDIN_FILENO, STDOUT_FILENO};
 
 // Reads standard input to the start of `text`, and tells how many bytes. There is room for more than the longest text, so that a longer one is told from it.
 fn read_text(text: &mut [u8]) -> usize
-    requires { mostInput < length text.old }
+    requires { most_input < length text.old }
     ensures { TextRead result text.new }
 {
     io::read_full(STDIN_FILENO, text)

@@ -3,7 +3,7 @@ use Rattle.std.specs.Prelude.{◌≡◌, List, [], ◌∷◌, ◌++◌, ℕ, zer
 use Rattle.std.proofs.Common.{ap, arith, length-take}
 use Rattle.std.specs.Float.{nan}
 use Rattle.whole.specs.Whole.{count, IsWhole}
-use Rattle.definition.specs.Seek.{decimal, printItem}
+use Rattle.definition.specs.Seek.{decimal, print_item}
 
 -- the bytes stand at `at`, up to `end`, and nothing before them differs
 pub record Put (bytes out₀ : List ℕ) (at : ℕ) (out : List ℕ) (end : ℕ) : Type 0 where
@@ -26,19 +26,19 @@ pub record Number (n : ℕ) (out₀ : List ℕ) (at : ℕ) (out : List ℕ) (end
   pub few : end ≤ at + 20
 
 abbrev pub line_of : ℕ → ℕ → List ℕ
-line_of id dist = printItem (record { dist = dist; id = id })
+line_of id dist = print_item (record { dist = dist; id = id })
 
 pub record Line (id dist : ℕ) (out₀ : List ℕ) (at : ℕ) (out : List ℕ) (end : ℕ) : Type 0 where
   pub put : Put (line_of id dist) out₀ at out end
   pub few : end ≤ at + 42
 
 -- the lines of the first i answers
-unfoldable pub linesUp : List ℕ → List Float → ℕ → List ℕ
-linesUp ids dists zero = []
-linesUp ids dists (suc i) = linesUp ids dists i ++ line_of (get_or ids i 0) (count (get_or dists i nan))
+unfoldable pub lines_up : List ℕ → List Float → ℕ → List ℕ
+lines_up ids dists zero = []
+lines_up ids dists (suc i) = lines_up ids dists i ++ line_of (get_or ids i 0) (count (get_or dists i nan))
 
-unfoldable pub foundText : List ℕ → List Float → ℕ → List ℕ
-foundText ids dists n = decimal n ++ (10 ∷ []) ++ linesUp ids dists n
+unfoldable pub found_text : List ℕ → List Float → ℕ → List ℕ
+found_text ids dists n = decimal n ++ (10 ∷ []) ++ lines_up ids dists n
 
 -- the first n are whole numbers
 pub record Wholes (dists : List Float) (n : ℕ) : Type 0 where

@@ -16,8 +16,8 @@ padded-turn l i h =
     let rest : length l - i ≡ suc (length l - (i + 1)) = omega arith in
     rw (size, length-take-le i l (omega arith), rest, front) (append_assoc (take i l) (pad ∷ []) (replicate (length l - (i + 1)) pad))
 
-pub padded-end : (l : List ℕ) (i : ℕ) → length l ≤ i → padded (length l) (take i l) ≡ l
+pub padded_end : (l : List ℕ) (i : ℕ) → length l ≤ i → padded (length l) (take i l) ≡ l
 unfolding padded
-padded-end l i h =
+padded_end l i h =
     let none : length l - length l ≡ 0 = omega arith in
     rw (take_all i l h, none) (append-nil l)

@@ -26,22 +26,22 @@ pub record IdsCopied (words out : List ℕ) (r : ℕ) : Type 0 where
 
 -- ---- a row is lent as its stretch of the table, and comes back written
 
-pub stretch-length : (table : List ℕ) (place width : ℕ) → place * width + width ≤ length table → length (part (place * width) (place * width + width) table) ≡ width
-stretch-length table place width h = part_length (place * width) (place * width + width) table h ∙ add-sub_cancel_left (place * width) width
+pub stretch_length : (table : List ℕ) (place width : ℕ) → place * width + width ≤ length table → length (part (place * width) (place * width + width) table) ≡ width
+stretch_length table place width h = part_length (place * width) (place * width + width) table h ∙ add-sub_cancel_left (place * width) width
 
 pub stretched : (table row : List ℕ) (place width r : ℕ) (ids : List ℕ) → place * width + width ≤ length table
     → Written row r (length (part (place * width) (place * width + width) table)) ids
     → Stretched table (put_mid (place * width) ((place * width + width) - place * width) table row) place width r ids
 stretched table row place width r ids h w =
     let at = place * width in
-    let is : row ≡ padded width ids = w.words ∙ ap (λ (k : ℕ). padded k ids) (stretch-length table place width h) in
+    let is : row ≡ padded width ids = w.words ∙ ap (λ (k : ℕ). padded k ids) (stretch_length table place width h) in
     let rest : drop ((at + width) - at) (drop at table) ≡ drop (at + width) table = ap (λ (k : ℕ). drop k (drop at table)) (add-sub_cancel_left at width) ∙ drop-drop width at table in
     record { count = w.count; words = ap₂ (λ (l m : List ℕ). take at table ++ (l ++ m)) is rest }
 
 -- the same row said by other words
-pub stretched-as : (table₀ table : List ℕ) (p place width r : ℕ) (ids xs : List ℕ) → p ≡ place → ids ≡ xs
+pub stretched_as : (table₀ table : List ℕ) (p place width r : ℕ) (ids xs : List ℕ) → p ≡ place → ids ≡ xs
     → Stretched table₀ table p width r ids → Stretched table₀ table place width (length xs) xs
-stretched-as table₀ table p place width r ids xs q e s =
+stretched_as table₀ table p place width r ids xs q e s =
     record {
       count = refl;
       words =
@@ -92,12 +92,12 @@ module _ (t₀ t : List ℕ) (place width r : ℕ) (ids : List ℕ) (s : Stretch
   above : drop end t ≡ drop end t₀
   above = sym (drop-drop width at t) ∙ ap (drop width) from ∙ drop_at (padded width ids) (drop end t₀) width (length-padded width ids few)
 
-  pub row-lower : (j : ℕ) → j < place → row width t j ≡ row width t₀ j
-  row-lower j h =
+  pub row_lower : (j : ℕ) → j < place → row width t j ≡ row width t₀ j
+  row_lower j h =
       let f = row_fits j place width h in
       row_before width t j at f ∙ ap (λ (l : List ℕ). row width l j) below ∙ sym (row_before width t₀ j at f)
 
-  pub row-higher : (j : ℕ) → place < j → row width t j ≡ row width t₀ j
-  row-higher j h =
+  pub row_higher : (j : ℕ) → place < j → row width t j ≡ row width t₀ j
+  row_higher j h =
       let f = row_fits place j width h in
       row-after width t j end f ∙ ap (λ (l : List ℕ). take width (drop (j * width - end) l)) above ∙ sym (row-after width t₀ j end f)

@@ -1,7 +1,7 @@
 // Tables: the padding word, words that name entries, how wide a row is, and all that writes padding.
 ghost use Rattle.std.specs.Prelude.{◌≡◌, ◌+◌, ◌*◌, ◌≤◌, ◌<◌, length, take};
 ghost use Rattle.definition.specs.Slack.{slack};
-ghost use Rattle.definition.specs.Tables.{padded, onlyPad};
+ghost use Rattle.definition.specs.Tables.{padded, only_pad};
 ghost use Rattle.table.specs.Rows.{Stretched, IdsCopied};
 
 // What no id is.
@@ -32,7 +32,7 @@ pub fn slack(degree: usize) -> usize
 
 // Whether every word is padding. There is no way out of the loop, so that it is done on several words at once.
 pub fn only_padding(words: &[u32]) -> bool
-    ensures { result ≡ onlyPad words.now }
+    ensures { result ≡ only_pad words.now }
 {
     let mut found = false;
     let mut i = 0;

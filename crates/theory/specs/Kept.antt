@@ -10,7 +10,7 @@ pub record RowKept (n width own : ℕ) (words : List ℕ) : Type 0 where
   pub split : words ≡ ids ++ replicate (width - length ids) pad
   pub most : length ids ≤ width
   pub below : (x : ℕ) → Mem x ids → x < n
-  pub notOwn : ¬ Mem own ids
+  pub not_own : ¬ Mem own ids
   pub once : Nodup ids
 
 pub record TableKept (n width : ℕ) (table : List ℕ) : Type 0 where

@@ -14,8 +14,8 @@ use Rattle.laws.specs.Truth.{branch}
 use Rattle.laws.specs.Below.{one_further}
 use Rattle.whole.specs.Whole.{limit}
 use Rattle.whole.specs.Sums.{Within}
-use Rattle.whole.specs.Eight.{exactScore, score-exact, score-within}
-use Rattle.theory.specs.Metric.{Bytes, between-most}
+use Rattle.whole.specs.Eight.{exact_score, score_exact, score_within}
+use Rattle.theory.specs.Metric.{Bytes, between_most}
 
 -- m is the entry of the least number, the lower id on equality
 pub record Least (f : ℕ → ℕ) (n m : ℕ) : Type 0 where
@@ -25,29 +25,29 @@ pub record Least (f : ℕ → ℕ) (n m : ℕ) : Type 0 where
 
 -- ---- exact while the sum is at most 2^24
 
-sum-most : (pair : ℕ → ℕ → ℕ) (i : ℕ) (ps : List ℕ) (k : ℕ) → ((j : ℕ) → pair i j ≤ 65025 * 32) → length ps ≤ k → exactScore pair ps i ≤ 65025 * 32 * k
-unfolding exactScore
-sum-most pair i [] k b h = omega arith
-sum-most pair i (p ∷ ps) zero b h = absurd (omega arith)
-sum-most pair i (p ∷ ps) (suc k) b h = let a = b p in let c = sum-most pair i ps k b (omega arith) in omega arith
+sum_most : (pair : ℕ → ℕ → ℕ) (i : ℕ) (ps : List ℕ) (k : ℕ) → ((j : ℕ) → pair i j ≤ 65025 * 32) → length ps ≤ k → exact_score pair ps i ≤ 65025 * 32 * k
+unfolding exact_score
+sum_most pair i [] k b h = omega arith
+sum_most pair i (p ∷ ps) zero b h = absurd (omega arith)
+sum_most pair i (p ∷ ps) (suc k) b h = let a = b p in let c = sum_most pair i ps k b (omega arith) in omega arith
 
-pub exactScore-most : (dim : ℕ) (vectors pivots : List ℕ) (i : ℕ) → dim ≤ 32 → length pivots ≤ 8 → Bytes vectors
-    → exactScore (between dim vectors) pivots i ≤ limit
-exactScore-most dim vectors pivots i small few bytes =
-    let m = sum-most (between dim vectors) i pivots 8 (λ j. let b = between-most dim vectors bytes i j in omega arith) few in
+pub exact_score_most : (dim : ℕ) (vectors pivots : List ℕ) (i : ℕ) → dim ≤ 32 → length pivots ≤ 8 → Bytes vectors
+    → exact_score (between dim vectors) pivots i ≤ limit
+exact_score_most dim vectors pivots i small few bytes =
+    let m = sum_most (between dim vectors) i pivots 8 (λ j. let b = between_most dim vectors bytes i j in omega arith) few in
     omega arith
 
-pub medoid-exact : (dim : ℕ) (vectors pivots : List ℕ) (i : ℕ) → dim ≤ 32 → length pivots ≤ 8 → Bytes vectors
-    → score (between dim vectors) pivots i ≡ whole (exactScore (between dim vectors) pivots i)
-medoid-exact dim vectors pivots i small few bytes =
-    score-exact (between dim vectors) pivots i (exactScore-most dim vectors pivots i small few bytes)
+pub medoid_exact : (dim : ℕ) (vectors pivots : List ℕ) (i : ℕ) → dim ≤ 32 → length pivots ≤ 8 → Bytes vectors
+    → score (between dim vectors) pivots i ≡ whole (exact_score (between dim vectors) pivots i)
+medoid_exact dim vectors pivots i small few bytes =
+    score_exact (between dim vectors) pivots i (exact_score_most dim vectors pivots i small few bytes)
 
 -- ---- beyond: the score's own value is a whole number within 21
 
-pub medoid-within : (dim : ℕ) (vectors pivots : List ℕ) (i : ℕ) → dim ≤ 256 → length pivots ≤ 8 → Bytes vectors
-    → Within (exactScore (between dim vectors) pivots i) 21 (score (between dim vectors) pivots i)
-medoid-within dim vectors pivots i small few bytes =
-    score-within (between dim vectors) pivots i (λ p. let b = between-most dim vectors bytes i p in omega arith) few
+pub medoid_within : (dim : ℕ) (vectors pivots : List ℕ) (i : ℕ) → dim ≤ 256 → length pivots ≤ 8 → Bytes vectors
+    → Within (exact_score (between dim vectors) pivots i) 21 (score (between dim vectors) pivots i)
+medoid_within dim vectors pivots i small few bytes =
+    score_within (between dim vectors) pivots i (λ p. let b = between_most dim vectors bytes i p in omega arith) few
 
 -- ---- the least wins: over any scores that compare as numbers do
 
@@ -105,11 +105,11 @@ module _ (f : ℕ → ℕ) (scores : ℕ → Float) (alike : (a b : ℕ) → lt 
     };
   }
 
-pub chosen-least : (f : ℕ → ℕ) (pair : ℕ → ℕ → ℕ) (pivots : List ℕ)
+pub chosen_least : (f : ℕ → ℕ) (pair : ℕ → ℕ → ℕ) (pivots : List ℕ)
     → ((a b : ℕ) → lt (score pair pivots a) (score pair pivots b) ≡ ltb (f a) (f b)) → (n : ℕ) → 0 < n → Least f n (medoid pair pivots n)
 unfolding medoid
-chosen-least f pair pivots alike zero h = absurd (omega arith)
-chosen-least f pair pivots alike (suc n) h =
+chosen_least f pair pivots alike zero h = absurd (omega arith)
+chosen_least f pair pivots alike (suc n) h =
     let first : Leader = record { id = 0; total = score pair pivots 0 } in
     subst (λ (m : ℕ). Least f m (leader (score pair pivots) first 1 n).id) (omega arith)
     (leads f (score pair pivots) alike n 1 first (alone f (score pair pivots) alike)).among

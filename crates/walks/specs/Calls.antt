@@ -45,42 +45,42 @@ abbrev pub tokens : (n : ℕ) → Lfts n → Shares n → Fml
 tokens zero κs qs = ftrue
 tokens (suc n) κs qs = fsep (flft κs.0 qs.0) (tokens n κs.1 qs.1)
 
-abbrev pub shareAt : (n j : ℕ) → Within n j → Shares n → Share
-shareAt zero j ok qs = absurd ok
-shareAt (suc n) zero ok qs = qs.0
-shareAt (suc n) (suc j) ok qs = shareAt n j ok qs.1
+abbrev pub share_at : (n j : ℕ) → Within n j → Shares n → Share
+share_at zero j ok qs = absurd ok
+share_at (suc n) zero ok qs = qs.0
+share_at (suc n) (suc j) ok qs = share_at n j ok qs.1
 
 module _ {M : Type 1} {𝓤 : Ura M} (𝓛 : Logic 𝓤) where
   open 𝓛 use {A}
 
-  tokens-in : (n : ℕ) (κs : Lfts n) (qs : Shares n) → ent 𝓤 (toks 𝓛 n κs qs) (sem 𝓛 (tokens n κs qs))
-  tokens-in zero κs qs = id⊢ 𝓤 _
-  tokens-in (suc n) κs qs = mono_r 𝓤 (A.lft κs.0 qs.0) (tokens-in n κs.1 qs.1)
+  tokens_in : (n : ℕ) (κs : Lfts n) (qs : Shares n) → ent 𝓤 (toks 𝓛 n κs qs) (sem 𝓛 (tokens n κs qs))
+  tokens_in zero κs qs = id⊢ 𝓤 _
+  tokens_in (suc n) κs qs = mono_r 𝓤 (A.lft κs.0 qs.0) (tokens_in n κs.1 qs.1)
 
-  tokens-out : (n : ℕ) (κs : Lfts n) (qs : Shares n) → ent 𝓤 (sem 𝓛 (tokens n κs qs)) (toks 𝓛 n κs qs)
-  tokens-out zero κs qs = id⊢ 𝓤 _
-  tokens-out (suc n) κs qs = mono_r 𝓤 (A.lft κs.0 qs.0) (tokens-out n κs.1 qs.1)
+  tokens_out : (n : ℕ) (κs : Lfts n) (qs : Shares n) → ent 𝓤 (sem 𝓛 (tokens n κs qs)) (toks 𝓛 n κs qs)
+  tokens_out zero κs qs = id⊢ 𝓤 _
+  tokens_out (suc n) κs qs = mono_r 𝓤 (A.lft κs.0 qs.0) (tokens_out n κs.1 qs.1)
 
 -- ---- the parameters' types
 pub record Param : Type 2 where
   pub field : Field
   pub laws : FLaws field
 
-abbrev pub a-u32 : Param
-a-u32 = record { field = u32-field; laws = LL.u32-laws }
+abbrev pub a_u32 : Param
+a_u32 = record { field = u32-field; laws = LL.u32-laws }
 
-abbrev pub a-usize : Param
-a-usize = record { field = usize-field; laws = LL.usize-laws }
+abbrev pub a_usize : Param
+a_usize = record { field = usize-field; laws = LL.usize-laws }
 
 module _ (a : NamedLft) (R : RattleType) (one : One R.mir) where
-  abbrev pub a-mut : Param
-  a-mut = record { field = mut_ref_field a R one; laws = LL.mut_ref_laws a R one }
+  abbrev pub a_mut : Param
+  a_mut = record { field = mut_ref_field a R one; laws = LL.mut_ref_laws a R one }
 
   abbrev pub a_slice : Param
   a_slice = record { field = shr_slice_field a R one; laws = LL.shr_slice_laws a R one }
 
-  abbrev pub a-mut-slice : Param
-  a-mut-slice = record { field = mut_slice_field a R one; laws = LL.mut_slice_laws a R one }
+  abbrev pub a_mut_slice : Param
+  a_mut_slice = record { field = mut_slice_field a R one; laws = LL.mut_slice_laws a R one }
 
 abbrev pub fields : List Param → List Field
 fields [] = []
@@ -125,11 +125,11 @@ abbrev Clausess : Ended → Type 2
 Clausess T = (M : Type 1) (𝓤 : Ura M) (𝓛 : Logic 𝓤) (mem : Memory → SProp 𝓤) (run : Routine → Fun 𝓤) → Clauses 𝓤 T
 
 module _ {M : Type 1} {𝓤 : Ura M} (𝓛 : Logic 𝓤) (𝓜 : Model 𝓤 𝓛.H) (𝓡 : Running 𝓤 𝓛.H 𝓜) (T : Ended) (c : Clausess T) where
-  abbrev pub said-by : Clauses 𝓤 T
-  said-by = c M 𝓤 𝓛 𝓜.mem 𝓡.run
+  abbrev pub said_by : Clauses 𝓤 T
+  said_by = c M 𝓤 𝓛 𝓜.mem 𝓡.run
 
-  abbrev pub contract-of : Contract 𝓤
-  contract-of = triple_of 𝓛 T.signature (closing 𝓛 T said-by)
+  abbrev pub contract_of : Contract 𝓤
+  contract_of = triple_of 𝓛 T.signature (closing 𝓛 T said_by)
 
 pub record Callee : Type 2 where
   pub name : Name
@@ -137,7 +137,7 @@ pub record Callee : Type 2 where
   pub clauses : Clausess ended
   pub routine : Routine
   pub met : (M : Type 1) (𝓤 : Ura M) (𝓛 : Logic 𝓤) (𝓜 : Model 𝓤 𝓛.H) (𝓡 : Running 𝓤 𝓛.H 𝓜)
-      → Triple 𝓤 (𝓡.run routine) (contract-of 𝓛 𝓜 𝓡 ended clauses)
+      → Triple 𝓤 (𝓡.run routine) (contract_of 𝓛 𝓜 𝓡 ended clauses)
 
 pub record Function : Type 2 where
   pub name : Name
@@ -177,10 +177,10 @@ module _ {M : Type 1} {𝓤 : Ura M} (𝓛 : Logic 𝓤) (𝓜 : Model 𝓤 𝓛
   S = T.signature
 
   abbrev c : Clauses 𝓤 T
-  c = said-by 𝓛 𝓜 𝓡 T f.clauses
+  c = said_by 𝓛 𝓜 𝓡 T f.clauses
 
   abbrev pub own : Contract 𝓤
-  own = contract-of 𝓛 𝓜 𝓡 T f.clauses
+  own = contract_of 𝓛 𝓜 𝓡 T f.clauses
 
   -- where the walk begins
   module _ (κs : Lfts S.lifetimes) (qs : Shares S.lifetimes) (bounds : AllOutlive S.lifetimes S.outlives κs)
@@ -204,7 +204,7 @@ module _ {M : Type 1} {𝓤 : Ura M} (𝓛 : Logic 𝓤) (𝓜 : Model 𝓤 𝓛
       (via 𝓤 (sep 𝓤 (wand 𝓤 R (Q y.0.4)) R)
       (mono_l 𝓤 R (said 𝓛 S κs qs (f.spelling κs).spells (f.spelling κs).tells a (λ us. wand 𝓤 R (Q us)) y.0.4 (λ are. wand_i 𝓤 _ R _
       (qed 𝓛 ((raw (alive 𝓛 S κs qs) ⊛ ‵ (owns (types_at S.params κs) a (spelt f κs a))) ∷ raw R ∷ []) ∵ split ! $
-      use1 𝓛 (‵ (tokens S.lifetimes κs qs)) (tokens-in 𝓛 S.lifetimes κs qs) $
+      use1 𝓛 (‵ (tokens S.lifetimes κs qs)) (tokens_in 𝓛 S.lifetimes κs qs) $
       enters ! C Λ f.code (passed f κs a) _
       (f.typed κs a (all_Typed 𝓛 (types_at S.params κs) ((f.spelling κs).lawful 𝓛) a (spelt f κs a) are))
       (walk κs qs y.0.2 a y.1 are)))))
@@ -227,13 +227,13 @@ module _ {M : Type 1} {𝓤 : Ura M} (𝓛 : Logic 𝓤) (𝓜 : Model 𝓤 𝓛
       let O : Res S κs → Fml = λ r'. (type_at S.result κs).own_val r' (v ∷ []) in
       qed 𝓛 (raw (E ws) ∷ ‵ (tokens S.lifetimes κs y.0.1) ∷ ‵ (O r) ∷ ‵ (lasts T κs a ws) ∷ []) ∵ updating ! $ at_once ! $ move ! (1 ∷ []) $
       show ! (λ (r' : Res S κs). sep 𝓤 (sep 𝓤 (alive 𝓛 S κs y.0.1) (sem 𝓛 (O r'))) (ensured 𝓛 T c κs a y.1 r')) r $
-      use1 𝓛 (raw (alive 𝓛 S κs y.0.1)) (tokens-out 𝓛 S.lifetimes κs y.0.1) $ move ! (0 ∷ 2 ∷ []) $ join ! $ frame ! $
+      use1 𝓛 (raw (alive 𝓛 S κs y.0.1)) (tokens_out 𝓛 S.lifetimes κs y.0.1) $ move ! (0 ∷ 2 ∷ []) $ join ! $ frame ! $
       show ! (λ (us : Lasts T κs a). sep 𝓤 (sem 𝓛 (lasts T κs a us)) (E us)) ws $ move ! (1 ∷ []) $ frame ! $ done !
 
   -- ---- a call of the function h, at the values that y binds, where its `requires` holds: what comes back is the result r, as w, and the last values ws
-  calls-framed : FmC 𝓤 H 𝓛.laws C
+  calls_framed : FmC 𝓤 H 𝓛.laws C
   unfolding tables_of
-  calls-framed = fm_of 𝓤 H 𝓛.laws (tables_of 𝓤 H 𝓜 (tables 𝓤 H 𝓜 𝓡 f.env))
+  calls_framed = fm_of 𝓤 H 𝓛.laws (tables_of 𝓤 H 𝓜 (tables 𝓤 H 𝓜 𝓡 f.env))
 
   module _ (h : Callee) where
     abbrev Tʰ : Ended
@@ -243,10 +243,10 @@ module _ {M : Type 1} {𝓤 : Ura M} (𝓛 : Logic 𝓤) (𝓜 : Model 𝓤 𝓛
     Sʰ = Tʰ.signature
 
     abbrev cʰ : Clauses 𝓤 Tʰ
-    cʰ = said-by 𝓛 𝓜 𝓡 Tʰ h.clauses
+    cʰ = said_by 𝓛 𝓜 𝓡 Tʰ h.clauses
 
     abbrev pub its : Contract 𝓤
-    its = contract-of 𝓛 𝓜 𝓡 Tʰ h.clauses
+    its = contract_of 𝓛 𝓜 𝓡 Tʰ h.clauses
 
     module _ {K : Type 0} {Γ : List (Item 𝓤)} {E : Env 𝓤 H} {q : Post 𝓤 H} {xs : List Operand} {d : Place} {rest : Body} where
       pub called : K → f.env h.name ≡ h.routine → (y : its.Ghost) → ent 𝓤 (emp 𝓤) ((cʰ y.0.0 y.0.3).requires y.1)
@@ -264,9 +264,9 @@ module _ {M : Type 1} {𝓤 : Ura M} (𝓛 : Logic 𝓤) (𝓜 : Model 𝓤 𝓛
           let n : ℕ = Sʰ.lifetimes in
           let Own : Res Sʰ κs → Val → Item 𝓤 = λ r w. ‵ ((type_at Sʰ.result κs).own_val r (w ∷ [])) in
           let Said : Res Sʰ κs → Lasts Tʰ κs a → Item 𝓤 = λ r ws. ‵ (lasts Tʰ κs a ws) ⊛ raw ((cʰ κs a).ensures y.1 r (at_exit Tʰ κs a ws)) in
-          use1 𝓛 (raw (alive 𝓛 Sʰ κs qs)) (tokens-out 𝓛 n κs qs) $ join t $ use0 𝓛 (raw ((cʰ κs a).requires y.1)) asks $
+          use1 𝓛 (raw (alive 𝓛 Sʰ κs qs)) (tokens_out 𝓛 n κs qs) $ join t $ use0 𝓛 (raw ((cʰ κs a).requires y.1)) asks $
           move t (1 ∷ 0 ∷ []) $ use2 𝓛 (raw (its.pre y)) (id⊢ 𝓤 _) $
-          calls_at t calls-framed its (cited 𝓤 H its 𝓜 𝓡 f.env h.name h.routine means (h.met M 𝓤 𝓛 𝓜 𝓡)) y os (λ w.
+          calls_at t calls_framed its (cited 𝓤 H its 𝓜 𝓡 f.env h.name h.routine means (h.met M 𝓤 𝓛 𝓜 𝓡)) y os (λ w.
           use1 𝓛 (later (some (λ (r : Res Sʰ κs). (raw (alive 𝓛 Sʰ κs qs) ⊛ Own r w) ⊛ some (Said r)))) (id⊢ 𝓤 _) $ await t tt $ pick t (λ r.
-          split t $ split t $ move t (2 ∷ []) $ pick t (λ ws. split t $ move t (2 ∷ []) $ use1 𝓛 (‵ (tokens n κs qs)) (tokens-in 𝓛 n κs qs) $
+          split t $ split t $ move t (2 ∷ []) $ pick t (λ ws. split t $ move t (2 ∷ []) $ use1 𝓛 (‵ (tokens n κs qs)) (tokens_in 𝓛 n κs qs) $
           move t (2 ∷ 3 ∷ 0 ∷ 1 ∷ []) $ k (w, r, ws))))

@@ -135,12 +135,12 @@ module _ {M : Type 1} {𝓤 : Ura M} (𝓛 : Logic 𝓤) where
       move ! (1 ∷ 0 ∷ []) $ fjoin ! $ done !)
 
   -- room for a local, whatever it holds, and the way back
-  room-head : (c : Cell) (cs : List Cell) (v : Val)
+  room_head : (c : Cell) (cs : List Cell) (v : Val)
       → ent 𝓤 (sem 𝓛 (frame (c ∷ cs))) (sep 𝓤 (H.room (kind c) (block c) 0) (Way (c ∷ cs) zero (kind c) (block c) v))
   unfolding frame
-  room-head (vacant τ b) cs v = qed 𝓛 (‵ (frame (vacant τ b ∷ cs)) ∷ []) ∵ fsplit ! $ fsplit ! $ framed ! $ assume ! (‵ (fat full_share τ b 0 v)) $
+  room_head (vacant τ b) cs v = qed 𝓛 (‵ (frame (vacant τ b ∷ cs)) ∷ []) ∵ fsplit ! $ fsplit ! $ framed ! $ assume ! (‵ (fat full_share τ b 0 v)) $
       fjoin ! $ fjoin ! $ done !
-  room-head (holds τ b v₀) cs v =
+  room_head (holds τ b v₀) cs v =
       qed 𝓛 (‵ (frame (holds τ b v₀ ∷ cs)) ∷ []) ∵ fsplit ! $ fsplit ! $ use1 𝓛 (‵ (froom τ b 0)) (𝓛.laws.at_room τ b 0 v₀) $
       framed ! $ assume ! (‵ (fat full_share τ b 0 v)) $ fjoin ! $ fjoin ! $ done !
 
@@ -149,7 +149,7 @@ module _ {M : Type 1} {𝓤 : Ura M} (𝓛 : Logic 𝓤) where
   roomed [] i τ b v h = absurd (none-ne-some {A = Ty × ℕ} (τ, b) h)
   roomed (c ∷ cs) zero τ b v h =
       subst (λ (p : Ty × ℕ). ent 𝓤 (sem 𝓛 (frame (c ∷ cs))) (sep 𝓤 (H.room p.0 p.1 0) (Way (c ∷ cs) zero p.0 p.1 v)))
-      (some-injective (kind c, block c) (τ, b) h) (room-head c cs v)
+      (some-injective (kind c, block c) (τ, b) h) (room_head c cs v)
   roomed (c ∷ cs) (suc i) τ b v h =
       qed 𝓛 (‵ (frame (c ∷ cs)) ∷ []) ∵ fsplit ! $ move ! (1 ∷ []) $
       use1 𝓛 (‵ (froom τ b 0) ⊛ raw (Way cs i τ b v)) (roomed cs i τ b v h) $ split ! $ framed ! $
@@ -199,28 +199,28 @@ module _ {M : Type 1} {𝓤 : Ura M} (𝓛 : Logic 𝓤) where
       (qed 𝓛 (I ∷ ‵ (frame (passed ls bs' vs)) ∷ []) ∵ split ! $ move ! (1 ∷ 2 ∷ []) $ fjoin ! $ move ! (1 ∷ 0 ∷ []) $ by ! (k bs))))
 
   -- ---- on return: every local is freed
-  freed-one : (c : Cell) → ent 𝓤 (sem 𝓛 (cell c)) (H.room (kind c) (block c) 0)
-  freed-one (vacant τ b) = id⊢ 𝓤 _
-  freed-one (holds τ b v) = 𝓛.laws.at_room τ b 0 v
+  freed_one : (c : Cell) → ent 𝓤 (sem 𝓛 (cell c)) (H.room (kind c) (block c) 0)
+  freed_one (vacant τ b) = id⊢ 𝓤 _
+  freed_one (holds τ b v) = 𝓛.laws.at_room τ b 0 v
 
   freed : (cs : List Cell) (P : SProp 𝓤) → ent 𝓤 (sep 𝓤 (sem 𝓛 (frame cs)) P) (release 𝓤 H (env cs) P)
   unfolding frame
   freed [] P = snd∗ 𝓤 (emp 𝓤) P
   freed (c ∷ cs) P =
-      qed 𝓛 (‵ (frame (c ∷ cs)) ∷ raw P ∷ []) ∵ fsplit ! $ fsplit ! $ use1 𝓛 (‵ (froom (kind c) (block c) 0)) (freed-one c) $
+      qed 𝓛 (‵ (frame (c ∷ cs)) ∷ raw P ∷ []) ∵ fsplit ! $ fsplit ! $ use1 𝓛 (‵ (froom (kind c) (block c) 0)) (freed_one c) $
       join ! $ framed ! $ by ! (freed cs P)
 
   -- what some locals hold is forgotten
-  emptied-so : (cs : List Cell) (n : ℕ) → ent 𝓤 (sem 𝓛 (frame cs)) (sem 𝓛 (frame (emptied cs n)))
+  emptied_so : (cs : List Cell) (n : ℕ) → ent 𝓤 (sem 𝓛 (frame cs)) (sem 𝓛 (frame (emptied cs n)))
   unfolding frame
-  emptied-so [] n = id⊢ 𝓤 _
-  emptied-so (c ∷ cs) zero = qed 𝓛 (‵ (frame (c ∷ cs)) ∷ []) ∵ fsplit ! $ fsplit ! $ use1 𝓛 (‵ (froom (kind c) (block c) 0)) (freed-one c) $
+  emptied_so [] n = id⊢ 𝓤 _
+  emptied_so (c ∷ cs) zero = qed 𝓛 (‵ (frame (c ∷ cs)) ∷ []) ∵ fsplit ! $ fsplit ! $ use1 𝓛 (‵ (froom (kind c) (block c) 0)) (freed_one c) $
       fjoin ! $ fjoin ! $ done !
-  emptied-so (c ∷ cs) (suc n) = qed 𝓛 (‵ (frame (c ∷ cs)) ∷ []) ∵ fsplit ! $ framed ! $ by ! (emptied-so cs n)
+  emptied_so (c ∷ cs) (suc n) = qed 𝓛 (‵ (frame (c ∷ cs)) ∷ []) ∵ fsplit ! $ framed ! $ by ! (emptied_so cs n)
 
-  all-emptied-so : (cs : List Cell) (ns : List ℕ) → ent 𝓤 (sem 𝓛 (frame cs)) (sem 𝓛 (frame (all-emptied cs ns)))
-  all-emptied-so cs [] = id⊢ 𝓤 _
-  all-emptied-so cs (n ∷ ns) = via 𝓤 (sem 𝓛 (frame (emptied cs n))) (emptied-so cs n) (all-emptied-so (emptied cs n) ns)
+  all_emptied_so : (cs : List Cell) (ns : List ℕ) → ent 𝓤 (sem 𝓛 (frame cs)) (sem 𝓛 (frame (all-emptied cs ns)))
+  all_emptied_so cs [] = id⊢ 𝓤 _
+  all_emptied_so cs (n ∷ ns) = via 𝓤 (sem 𝓛 (frame (emptied cs n))) (emptied_so cs n) (all_emptied_so (emptied cs n) ns)
 
 -- the frame as an entry of a context: cs stands in it, so that antt finds it there
 abbrev pub locals : {M : Type 1} {𝓤 : Ura M} → List Cell → Item 𝓤
@@ -237,40 +237,40 @@ module _ {M : Type 1} {𝓤 : Ura M} where
   before i (j ∷ Γ) = i ∷ before j Γ
 
   -- x in its place, in two parts, so that it is seen to have a first entry
-  abbrev pub first-put : Item 𝓤 → Item 𝓤 → List (Item 𝓤) → Item 𝓤
-  first-put x i [] = x
-  first-put x i (j ∷ Γ) = i
+  abbrev pub first_put : Item 𝓤 → Item 𝓤 → List (Item 𝓤) → Item 𝓤
+  first_put x i [] = x
+  first_put x i (j ∷ Γ) = i
 
   abbrev pub rest_put : Item 𝓤 → Item 𝓤 → List (Item 𝓤) → List (Item 𝓤)
   rest_put x i [] = []
-  rest_put x i (j ∷ Γ) = first-put x j Γ ∷ rest_put x j Γ
+  rest_put x i (j ∷ Γ) = first_put x j Γ ∷ rest_put x j Γ
 
   abbrev pub put_last : Item 𝓤 → Item 𝓤 → List (Item 𝓤) → List (Item 𝓤)
-  put_last x i Γ = first-put x i Γ ∷ rest_put x i Γ
+  put_last x i Γ = first_put x i Γ ∷ rest_put x i Γ
 
-  pub last-put : (x i : Item 𝓤) (Γ : List (Item 𝓤)) → last (first-put x i Γ) (rest_put x i Γ) ≡ x
-  last-put x i [] = refl
-  last-put x i (j ∷ Γ) = last-put x j Γ
+  pub last_put : (x i : Item 𝓤) (Γ : List (Item 𝓤)) → last (first_put x i Γ) (rest_put x i Γ) ≡ x
+  last_put x i [] = refl
+  last_put x i (j ∷ Γ) = last_put x j Γ
 
 module _ {M : Type 1} {𝓤 : Ura M} (𝓛 : Logic 𝓤) where
-  pub pull-last : (i : Item 𝓤) (Γ : List (Item 𝓤)) → ent 𝓤 (⋆ 𝓛 (i ∷ Γ)) (sep 𝓤 (mean 𝓛 (last i Γ)) (⋆ 𝓛 (before i Γ)))
-  pull-last i [] = pop 𝓛 i []
-  pull-last i (j ∷ Γ) =
-      via 𝓤 (sep 𝓤 (mean 𝓛 i) (sep 𝓤 (mean 𝓛 (last j Γ)) (⋆ 𝓛 (before j Γ)))) (mono_r 𝓤 (mean 𝓛 i) (pull-last j Γ))
+  pub pull_last : (i : Item 𝓤) (Γ : List (Item 𝓤)) → ent 𝓤 (⋆ 𝓛 (i ∷ Γ)) (sep 𝓤 (mean 𝓛 (last i Γ)) (⋆ 𝓛 (before i Γ)))
+  pull_last i [] = pop 𝓛 i []
+  pull_last i (j ∷ Γ) =
+      via 𝓤 (sep 𝓤 (mean 𝓛 i) (sep 𝓤 (mean 𝓛 (last j Γ)) (⋆ 𝓛 (before j Γ)))) (mono_r 𝓤 (mean 𝓛 i) (pull_last j Γ))
       (via 𝓤 (sep 𝓤 (mean 𝓛 (last j Γ)) (sep 𝓤 (mean 𝓛 i) (⋆ 𝓛 (before j Γ))))
       (swap∗ 𝓤 (mean 𝓛 i) (mean 𝓛 (last j Γ)) (⋆ 𝓛 (before j Γ)))
       (mono_r 𝓤 (mean 𝓛 (last j Γ)) (push 𝓛 i (before j Γ))))
 
-  pub fill-last : (x i : Item 𝓤) (Γ : List (Item 𝓤)) → ent 𝓤 (sep 𝓤 (mean 𝓛 x) (⋆ 𝓛 (before i Γ))) (⋆ 𝓛 (put_last x i Γ))
-  fill-last x i [] = push 𝓛 x []
-  fill-last x i (j ∷ Γ) =
+  pub fill_last : (x i : Item 𝓤) (Γ : List (Item 𝓤)) → ent 𝓤 (sep 𝓤 (mean 𝓛 x) (⋆ 𝓛 (before i Γ))) (⋆ 𝓛 (put_last x i Γ))
+  fill_last x i [] = push 𝓛 x []
+  fill_last x i (j ∷ Γ) =
       via 𝓤 (sep 𝓤 (mean 𝓛 x) (sep 𝓤 (mean 𝓛 i) (⋆ 𝓛 (before j Γ)))) (mono_r 𝓤 (mean 𝓛 x) (pop 𝓛 i (before j Γ)))
       (via 𝓤 (sep 𝓤 (mean 𝓛 i) (sep 𝓤 (mean 𝓛 x) (⋆ 𝓛 (before j Γ)))) (swap∗ 𝓤 (mean 𝓛 x) (mean 𝓛 i) (⋆ 𝓛 (before j Γ)))
-      (mono_r 𝓤 (mean 𝓛 i) (fill-last x j Γ)))
+      (mono_r 𝓤 (mean 𝓛 i) (fill_last x j Γ)))
 
-  pub same-last : (i : Item 𝓤) (Γ : List (Item 𝓤)) → put_last (last i Γ) i Γ ≡ i ∷ Γ
-  same-last i [] = refl
-  same-last i (j ∷ Γ) = ap (λ (Δ : List (Item 𝓤)). i ∷ Δ) (same-last j Γ)
+  pub same_last : (i : Item 𝓤) (Γ : List (Item 𝓤)) → put_last (last i Γ) i Γ ≡ i ∷ Γ
+  same_last i [] = refl
+  same_last i (j ∷ Γ) = ap (λ (Δ : List (Item 𝓤)). i ∷ Δ) (same_last j Γ)
 
 -- ---- the frame in a context
 module _ {M : Type 1} {𝓤 : Ura M} {𝓛 : Logic 𝓤} {K : Type 0} where
@@ -292,15 +292,15 @@ module _ {M : Type 1} {𝓤 : Ura M} {𝓛 : Logic 𝓤} {K : Type 0} where
 
   module _ {i : Item 𝓤} {Γ : List (Item 𝓤)} where
     -- a part of the last entry is read
-    pub in-last : K → {τ : Ty} {b o : ℕ} {v : Val} {q : Share} {back : Val → Item 𝓤} → Part K 𝓛 (last i Γ) q τ b o v back → Reads K 𝓛 (i ∷ Γ) τ b o v
-    in-last t {τ} {b} {o} {v} {q} {back} p = record {
+    pub in_last : K → {τ : Ty} {b o : ℕ} {v : Val} {q : Share} {back : Val → Item 𝓤} → Part K 𝓛 (last i Γ) q τ b o v back → Reads K 𝓛 (i ∷ Γ) τ b o v
+    in_last t {τ} {b} {o} {v} {q} {back} p = record {
       go = λ Kt h.
           let C : Val → SProp 𝓤 = λ u. H.at q τ b o u in
           let Way : SProp 𝓤 = all 𝓤 (λ (u : Val). wand 𝓤 (C u) (mean 𝓛 (back u))) in
           let Rest : SProp 𝓤 = ⋆ 𝓛 (before i Γ) in
-          let again : ent 𝓤 (sep 𝓤 (mean 𝓛 (back v)) Rest) (Kt v) = via 𝓤 (⋆ 𝓛 (put_last (back v) i Γ)) (fill-last 𝓛 (back v) i Γ)
-          (subst (λ (Δ : List (Item 𝓤)). ent 𝓤 (⋆ 𝓛 Δ) (Kt v)) (sym (ap (λ (x : Item 𝓤). put_last x i Γ) p.same ∙ same-last 𝓛 i Γ)) h) in
-          via 𝓤 (sep 𝓤 (mean 𝓛 (last i Γ)) Rest) (pull-last 𝓛 i Γ)
+          let again : ent 𝓤 (sep 𝓤 (mean 𝓛 (back v)) Rest) (Kt v) = via 𝓤 (⋆ 𝓛 (put_last (back v) i Γ)) (fill_last 𝓛 (back v) i Γ)
+          (subst (λ (Δ : List (Item 𝓤)). ent 𝓤 (⋆ 𝓛 Δ) (Kt v)) (sym (ap (λ (x : Item 𝓤). put_last x i Γ) p.same ∙ same_last 𝓛 i Γ)) h) in
+          via 𝓤 (sep 𝓤 (mean 𝓛 (last i Γ)) Rest) (pull_last 𝓛 i Γ)
           (qed 𝓛 (last i Γ ∷ raw Rest ∷ []) ∵ show ! (λ (s : Share). ex 𝓤 (λ (u : Val). sep 𝓤 (H.at s τ b o u) (wand 𝓤 (H.at s τ b o u) (Kt u)))) q $
           show ! (λ (u : Val). sep 𝓤 (C u) (wand 𝓤 (C u) (Kt u))) v $ use1 𝓛 (‵ (fat q τ b o v) ⊛ raw Way) p.out $
           split ! $ framed ! $ assume ! (‵ (fat q τ b o v)) $ move ! (1 ∷ []) $
@@ -315,20 +315,20 @@ module _ {M : Type 1} {𝓤 : Ura M} {𝓛 : Logic 𝓤} {K : Type 0} where
       go = λ P k.
           let Rest : SProp 𝓤 = ⋆ 𝓛 (before i Γ) in
           let cs' : List Cell = putc cs n (holds τ b v) in
-          via 𝓤 _ (subst (λ (x : Item 𝓤). ent 𝓤 (⋆ 𝓛 (i ∷ Γ)) (sep 𝓤 (mean 𝓛 x) Rest)) e (pull-last 𝓛 i Γ))
+          via 𝓤 _ (subst (λ (x : Item 𝓤). ent 𝓤 (⋆ 𝓛 (i ∷ Γ)) (sep 𝓤 (mean 𝓛 x) Rest)) e (pull_last 𝓛 i Γ))
           (qed 𝓛 (locals cs ∷ raw Rest ∷ []) ∵ fsplit ! $ drop ! $ check ! wt $
           use1 𝓛 (‵ (froom τ b 0) ⊛ raw (Way 𝓛 cs n τ b v)) (roomed 𝓛 cs n τ b v h) $ split ! $ framed ! $
           assume ! (‵ (fat full_share τ b 0 v)) $ use2 𝓛 (‵ (frame cs')) (apply∗ 𝓤 (H.at full_share τ b 0 v) (sem 𝓛 (frame cs'))) $
           feq_i ! (List Cell) cs' cs' refl $ fjoin ! $
-          by ! (via 𝓤 (⋆ 𝓛 (put_last (locals cs') i Γ)) (fill-last 𝓛 (locals cs') i Γ) k));
+          by ! (via 𝓤 (⋆ 𝓛 (put_last (locals cs') i Γ)) (fill_last 𝓛 (locals cs') i Γ) k));
     }
 
     -- what the locals ns hold is forgotten
     pub forgets : K → (ns : List ℕ) {cs : List Cell} {G : Goal 𝓤 H} → last i Γ ≡ locals cs → Step K 𝓛 (put_last (locals (all-emptied cs ns)) i Γ) G (i ∷ Γ) G
     forgets t ns {cs} {G} e = step (λ s. record {
-      prf = via 𝓤 _ (subst (λ (x : Item 𝓤). ent 𝓤 (⋆ 𝓛 (i ∷ Γ)) (sep 𝓤 (mean 𝓛 x) (⋆ 𝓛 (before i Γ)))) e (pull-last 𝓛 i Γ))
-          (qed 𝓛 (locals cs ∷ raw (⋆ 𝓛 (before i Γ)) ∷ []) ∵ fsplit ! $ drop ! $ use1 𝓛 (‵ (frame (all-emptied cs ns))) (all-emptied-so 𝓛 cs ns) $
-          feq_i ! (List Cell) _ _ refl $ fjoin ! $ by ! (via 𝓤 _ (fill-last 𝓛 (locals (all-emptied cs ns)) i Γ) s.prf));
+      prf = via 𝓤 _ (subst (λ (x : Item 𝓤). ent 𝓤 (⋆ 𝓛 (i ∷ Γ)) (sep 𝓤 (mean 𝓛 x) (⋆ 𝓛 (before i Γ)))) e (pull_last 𝓛 i Γ))
+          (qed 𝓛 (locals cs ∷ raw (⋆ 𝓛 (before i Γ)) ∷ []) ∵ fsplit ! $ drop ! $ use1 𝓛 (‵ (frame (all-emptied cs ns))) (all_emptied_so 𝓛 cs ns) $
+          feq_i ! (List Cell) _ _ refl $ fjoin ! $ by ! (via 𝓤 _ (fill_last 𝓛 (locals (all-emptied cs ns)) i Γ) s.prf));
     })
 
     -- the function returns what it reads in its first local, and its locals are freed; q is what the code ends in, and says so where it returns
@@ -337,7 +337,7 @@ module _ {M : Type 1} {𝓤 : Ura M} {𝓛 : Logic 𝓤} {K : Type 0} where
         → last i Γ ≡ locals cs → E ≡ env cs → Reads K 𝓛 (i ∷ Γ) (spot_of 𝓤 H E 0).0 (spot_of 𝓤 H E 0).1 0 r
         → Step K 𝓛 (before i Γ) (prop (Kf r)) (i ∷ Γ) (runs C Λ E return q)
     leaves_at t Kf {C} {Λ} {q} {E} {cs} {r} ends e same rd = step (λ s. returns_within t Kf ends rd $ record {
-      prf = via 𝓤 _ (subst (λ (x : Item 𝓤). ent 𝓤 (⋆ 𝓛 (i ∷ Γ)) (sep 𝓤 (mean 𝓛 x) (⋆ 𝓛 (before i Γ)))) e (pull-last 𝓛 i Γ))
+      prf = via 𝓤 _ (subst (λ (x : Item 𝓤). ent 𝓤 (⋆ 𝓛 (i ∷ Γ)) (sep 𝓤 (mean 𝓛 x) (⋆ 𝓛 (before i Γ)))) e (pull_last 𝓛 i Γ))
           (qed 𝓛 (locals cs ∷ raw (⋆ 𝓛 (before i Γ)) ∷ []) ∵ fsplit ! $ drop ! $ by !
           (via 𝓤 (sep 𝓤 (sem 𝓛 (frame cs)) (Kf r)) (mono_r 𝓤 (sem 𝓛 (frame cs)) s.prf)
           (subst (λ (E' : Env 𝓤 H). ent 𝓤 (sep 𝓤 (sem 𝓛 (frame cs)) (Kf r)) (release 𝓤 H E' (Kf r))) (sym same) (freed 𝓛 cs (Kf r)))));

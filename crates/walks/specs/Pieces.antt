@@ -62,30 +62,30 @@ module _ {M : Type 1} {𝓤 : Ura M} (𝓛 : Logic 𝓤) where
   let_go P = via 𝓤 (emp 𝓤) (top 𝓤 P) (emp∗ 𝓤 (emp 𝓤))
 
   -- a formula that is no star is let go, and has `ftrue` for its sides
-  two-sides : (F : Fml) → ent 𝓤 (sem 𝓛 F) (sep 𝓤 (sem 𝓛 (left-of (sides F))) (sem 𝓛 (right_of (sides F))))
-  two-sides (fsep P Q) = id⊢ 𝓤 (sep 𝓤 (sem 𝓛 P) (sem 𝓛 Q))
-  two-sides ftrue = let_go (sem 𝓛 ftrue)
-  two-sides ffalse = let_go (sem 𝓛 ffalse)
-  two-sides (feq X x y) = let_go (sem 𝓛 (feq X x y))
-  two-sides (flt m n) = let_go (sem 𝓛 (flt m n))
-  two-sides (fand P Q) = let_go (sem 𝓛 (fand P Q))
-  two-sides (for P Q) = let_go (sem 𝓛 (for P Q))
-  two-sides (fwand P Q) = let_go (sem 𝓛 (fwand P Q))
-  two-sides (fex X F) = let_go (sem 𝓛 (fex X F))
-  two-sides (fall X F) = let_go (sem 𝓛 (fall X F))
-  two-sides (fupd P) = let_go (sem 𝓛 (fupd P))
-  two-sides (fat q τ b o v) = let_go (sem 𝓛 (fat q τ b o v))
-  two-sides (froom τ b o) = let_go (sem 𝓛 (froom τ b o))
-  two-sides (fdies τ b) = let_go (sem 𝓛 (fdies τ b))
-  two-sides (flft κ q) = let_go (sem 𝓛 (flft κ q))
-  two-sides (fdead κ) = let_go (sem 𝓛 (fdead κ))
-  two-sides (fobs γ u) = let_go (sem 𝓛 (fobs γ u))
-  two-sides (fauth γ u) = let_go (sem 𝓛 (fauth γ u))
-  two-sides (fres γ u) = let_go (sem 𝓛 (fres γ u))
-  two-sides (fbor κ P) = let_go (sem 𝓛 (fbor κ P))
-  two-sides (fobor κ q P) = let_go (sem 𝓛 (fobor κ q P))
-  two-sides (flent κ P) = let_go (sem 𝓛 (flent κ P))
-  two-sides (fshr_bor κ P) = let_go (sem 𝓛 (fshr_bor κ P))
+  two_sides : (F : Fml) → ent 𝓤 (sem 𝓛 F) (sep 𝓤 (sem 𝓛 (left-of (sides F))) (sem 𝓛 (right_of (sides F))))
+  two_sides (fsep P Q) = id⊢ 𝓤 (sep 𝓤 (sem 𝓛 P) (sem 𝓛 Q))
+  two_sides ftrue = let_go (sem 𝓛 ftrue)
+  two_sides ffalse = let_go (sem 𝓛 ffalse)
+  two_sides (feq X x y) = let_go (sem 𝓛 (feq X x y))
+  two_sides (flt m n) = let_go (sem 𝓛 (flt m n))
+  two_sides (fand P Q) = let_go (sem 𝓛 (fand P Q))
+  two_sides (for P Q) = let_go (sem 𝓛 (for P Q))
+  two_sides (fwand P Q) = let_go (sem 𝓛 (fwand P Q))
+  two_sides (fex X F) = let_go (sem 𝓛 (fex X F))
+  two_sides (fall X F) = let_go (sem 𝓛 (fall X F))
+  two_sides (fupd P) = let_go (sem 𝓛 (fupd P))
+  two_sides (fat q τ b o v) = let_go (sem 𝓛 (fat q τ b o v))
+  two_sides (froom τ b o) = let_go (sem 𝓛 (froom τ b o))
+  two_sides (fdies τ b) = let_go (sem 𝓛 (fdies τ b))
+  two_sides (flft κ q) = let_go (sem 𝓛 (flft κ q))
+  two_sides (fdead κ) = let_go (sem 𝓛 (fdead κ))
+  two_sides (fobs γ u) = let_go (sem 𝓛 (fobs γ u))
+  two_sides (fauth γ u) = let_go (sem 𝓛 (fauth γ u))
+  two_sides (fres γ u) = let_go (sem 𝓛 (fres γ u))
+  two_sides (fbor κ P) = let_go (sem 𝓛 (fbor κ P))
+  two_sides (fobor κ q P) = let_go (sem 𝓛 (fobor κ q P))
+  two_sides (flent κ P) = let_go (sem 𝓛 (flent κ P))
+  two_sides (fshr_bor κ P) = let_go (sem 𝓛 (fshr_bor κ P))
 
   abbrev pub entries : List Fml → List (Item 𝓤)
   entries [] = []
@@ -94,15 +94,15 @@ module _ {M : Type 1} {𝓤 : Ura M} (𝓛 : Logic 𝓤) where
   apart : (n : ℕ) (F : Fml) → ent 𝓤 (sem 𝓛 F) (⋆ 𝓛 (entries (parts n F)))
   apart zero F = top 𝓤 (sem 𝓛 F)
   apart (suc n) F =
-      via 𝓤 (sep 𝓤 (sem 𝓛 (left-of (sides F))) (sem 𝓛 (right_of (sides F)))) (two-sides F)
+      via 𝓤 (sep 𝓤 (sem 𝓛 (left-of (sides F))) (sem 𝓛 (right_of (sides F)))) (two_sides F)
       (via 𝓤 (sep 𝓤 (sem 𝓛 (left-of (sides F))) (⋆ 𝓛 (entries (parts n (right_of (sides F))))))
       (mono_r 𝓤 (sem 𝓛 (left-of (sides F))) (apart n (right_of (sides F))))
       (push 𝓛 (‵ (left-of (sides F))) (entries (parts n (right_of (sides F))))))
 
-  behind-it : (n : ℕ) (F : Fml) → ent 𝓤 (sem 𝓛 F) (sem 𝓛 (behind n F))
-  behind-it zero F = id⊢ 𝓤 (sem 𝓛 F)
-  behind-it (suc n) F = via 𝓤 (sep 𝓤 (sem 𝓛 (left-of (sides F))) (sem 𝓛 (right_of (sides F)))) (two-sides F)
-      (via 𝓤 (sem 𝓛 (right_of (sides F))) (snd∗ 𝓤 (sem 𝓛 (left-of (sides F))) (sem 𝓛 (right_of (sides F)))) (behind-it n (right_of (sides F))))
+  behind_it : (n : ℕ) (F : Fml) → ent 𝓤 (sem 𝓛 F) (sem 𝓛 (behind n F))
+  behind_it zero F = id⊢ 𝓤 (sem 𝓛 F)
+  behind_it (suc n) F = via 𝓤 (sep 𝓤 (sem 𝓛 (left-of (sides F))) (sem 𝓛 (right_of (sides F)))) (two_sides F)
+      (via 𝓤 (sem 𝓛 (right_of (sides F))) (snd∗ 𝓤 (sem 𝓛 (left-of (sides F))) (sem 𝓛 (right_of (sides F)))) (behind_it n (right_of (sides F))))
 
 -- ---- entries of a context, as formulas
 abbrev formula : {M : Type 1} {𝓤 : Ura M} → Item 𝓤 → Fml
@@ -136,20 +136,20 @@ unsaying zero P = P
 unsaying (suc n) P = fsep ftrue (unsaying n P)
 
 module _ {M : Type 1} {𝓤 : Ura M} (𝓛 : Logic 𝓤) where
-  as-formula : (i : Item 𝓤) → ent 𝓤 (mean 𝓛 i) (sem 𝓛 (formula i))
-  as-formula (‵ P) = id⊢ 𝓤 (sem 𝓛 P)
-  as-formula (raw P) = top 𝓤 P
-  as-formula (i ⊛ j) = top 𝓤 (mean 𝓛 (i ⊛ j))
-  as-formula (any F) = top 𝓤 (mean 𝓛 (any F))
-  as-formula (given φ i) = top 𝓤 (mean 𝓛 (given φ i))
-  as-formula (later i) = top 𝓤 (mean 𝓛 (later i))
+  as_formula : (i : Item 𝓤) → ent 𝓤 (mean 𝓛 i) (sem 𝓛 (formula i))
+  as_formula (‵ P) = id⊢ 𝓤 (sem 𝓛 P)
+  as_formula (raw P) = top 𝓤 P
+  as_formula (i ⊛ j) = top 𝓤 (mean 𝓛 (i ⊛ j))
+  as_formula (any F) = top 𝓤 (mean 𝓛 (any F))
+  as_formula (given φ i) = top 𝓤 (mean 𝓛 (given φ i))
+  as_formula (later i) = top 𝓤 (mean 𝓛 (later i))
 
   joined : (n : ℕ) (Γ : List (Item 𝓤)) → ent 𝓤 (⋆ 𝓛 Γ) (sep 𝓤 (sem 𝓛 (star n Γ)) (⋆ 𝓛 (after n Γ)))
   joined n [] = emp∗ 𝓤 (emp 𝓤)
-  joined zero (i ∷ Γ) = via 𝓤 (sep 𝓤 (mean 𝓛 i) (⋆ 𝓛 Γ)) (pop 𝓛 i Γ) (mono_l 𝓤 (⋆ 𝓛 Γ) (as-formula i))
+  joined zero (i ∷ Γ) = via 𝓤 (sep 𝓤 (mean 𝓛 i) (⋆ 𝓛 Γ)) (pop 𝓛 i Γ) (mono_l 𝓤 (⋆ 𝓛 Γ) (as_formula i))
   joined (suc n) (i ∷ Γ) =
       via 𝓤 (sep 𝓤 (mean 𝓛 i) (⋆ 𝓛 Γ)) (pop 𝓛 i Γ)
-      (via 𝓤 (sep 𝓤 (sem 𝓛 (formula i)) (sep 𝓤 (sem 𝓛 (star n Γ)) (⋆ 𝓛 (after n Γ)))) (mono∗ 𝓤 (as-formula i) (joined n Γ))
+      (via 𝓤 (sep 𝓤 (sem 𝓛 (formula i)) (sep 𝓤 (sem 𝓛 (star n Γ)) (⋆ 𝓛 (after n Γ)))) (mono∗ 𝓤 (as_formula i) (joined n Γ))
       (assoc' 𝓤 (sem 𝓛 (formula i)) (sem 𝓛 (star n Γ)) (⋆ 𝓛 (after n Γ))))
 
   ends_so : (n : ℕ) (Γ : List (Item 𝓤)) → ent 𝓤 (⋆ 𝓛 Γ) (⋆ 𝓛 (ending n Γ))
@@ -164,14 +164,14 @@ module _ {M : Type 1} {𝓤 : Ura M} (𝓛 : Logic 𝓤) where
   fronted (suc n) P = via 𝓤 (sem 𝓛 (unsaying n P)) (fronted n P) (emp∗ 𝓤 (sem 𝓛 (unsaying n P)))
 
 -- places in a context as it stands, as `Types/Kit.antt`'s `move` has them: each relative to what is left once the earlier ones are taken out
-abbrev less-if : Bool → ℕ → ℕ
-less-if true zero = zero
-less-if true (suc n) = n
-less-if false n = n
+abbrev less_if : Bool → ℕ → ℕ
+less_if true zero = zero
+less_if true (suc n) = n
+less_if false n = n
 
 abbrev lowered : List ℕ → ℕ → ℕ → ℕ
 lowered [] i n = n
-lowered (s ∷ ss) i n = lowered ss i (less-if (ltb s i) n)
+lowered (s ∷ ss) i n = lowered ss i (less_if (ltb s i) n)
 
 abbrev relative : List ℕ → List ℕ → List ℕ
 relative seen [] = []
@@ -186,11 +186,11 @@ module _ {M : Type 1} {𝓤 : Ura M} (𝓛 : Logic 𝓤) where
   abbrev pub opened : ℕ → ℕ → List (Item 𝓤) → List (Item 𝓤)
   opened k n Γ = entries 𝓛 (parts n (formula (nth 𝓛 k Γ))) ++ del 𝓛 k Γ
 
-  opens-so : (k n : ℕ) (Γ : List (Item 𝓤)) → ent 𝓤 (⋆ 𝓛 Γ) (⋆ 𝓛 (opened k n Γ))
-  opens-so k n Γ =
+  opens_so : (k n : ℕ) (Γ : List (Item 𝓤)) → ent 𝓤 (⋆ 𝓛 Γ) (⋆ 𝓛 (opened k n Γ))
+  opens_so k n Γ =
       via 𝓤 (sep 𝓤 (mean 𝓛 (nth 𝓛 k Γ)) (⋆ 𝓛 (del 𝓛 k Γ))) (pull 𝓛 k Γ)
       (via 𝓤 (sep 𝓤 (⋆ 𝓛 (entries 𝓛 (parts n (formula (nth 𝓛 k Γ))))) (⋆ 𝓛 (del 𝓛 k Γ)))
-      (mono_l 𝓤 (⋆ 𝓛 (del 𝓛 k Γ)) (via 𝓤 (sem 𝓛 (formula (nth 𝓛 k Γ))) (as-formula 𝓛 (nth 𝓛 k Γ))
+      (mono_l 𝓤 (⋆ 𝓛 (del 𝓛 k Γ)) (via 𝓤 (sem 𝓛 (formula (nth 𝓛 k Γ))) (as_formula 𝓛 (nth 𝓛 k Γ))
       (apart 𝓛 n (formula (nth 𝓛 k Γ)))))
       (++⊢ 𝓛 (entries 𝓛 (parts n (formula (nth 𝓛 k Γ)))) (del 𝓛 k Γ)))
 
@@ -207,10 +207,10 @@ module _ {M : Type 1} {𝓤 : Ura M} {𝓛 : Logic 𝓤} {K : Type 0} {Γ : List
 
   -- of entry k
   pub pieces_of : K → (k n : ℕ) → Step K 𝓛 (opened 𝓛 k n Γ) G Γ G
-  pieces_of t k n = step (λ s. by t (via 𝓤 (⋆ 𝓛 (opened 𝓛 k n Γ)) (opens-so 𝓛 k n Γ) s.prf))
+  pieces_of t k n = step (λ s. by t (via 𝓤 (⋆ 𝓛 (opened 𝓛 k n Γ)) (opens_so 𝓛 k n Γ) s.prf))
 
   pub fronts : K → (k n : ℕ) → Step K 𝓛 (as_one 𝓛 n (opened 𝓛 k n Γ)) G Γ G
-  fronts t k n = step (λ s. by t (via 𝓤 (⋆ 𝓛 (opened 𝓛 k n Γ)) (opens-so 𝓛 k n Γ) (via 𝓤 _ (one 𝓛 n (opened 𝓛 k n Γ)) s.prf)))
+  fronts t k n = step (λ s. by t (via 𝓤 (⋆ 𝓛 (opened 𝓛 k n Γ)) (opens_so 𝓛 k n Γ) (via 𝓤 _ (one 𝓛 n (opened 𝓛 k n Γ)) s.prf)))
 
   pub gathers : K → (π : List ℕ) → Step K 𝓛 (as_one 𝓛 (length π) (ending (length π) (chosen 𝓛 π Γ))) G Γ G
   gathers t π = step (λ s.
@@ -219,7 +219,7 @@ module _ {M : Type 1} {𝓤 : Ura M} {𝓛 : Logic 𝓤} {K : Type 0} {Γ : List
       (via 𝓤 (⋆ 𝓛 (ending (length π) Δ)) (ends_so 𝓛 (length π) Δ) (via 𝓤 _ (one 𝓛 (length π) (ending (length π) Δ)) s.prf))))
 
   pub past : K → (n : ℕ) {F : Fml} → Step K 𝓛 (‵ (behind n F) ∷ Γ) G (‵ F ∷ Γ) G
-  past t n {F} = use1 𝓛 (‵ (behind n F)) (behind-it 𝓛 n F)
+  past t n {F} = use1 𝓛 (‵ (behind n F)) (behind_it 𝓛 n F)
 
   pub unsaid : K → (n : ℕ) {P : Fml} → Step K 𝓛 (‵ (unsaying n P) ∷ Γ) G (‵ P ∷ Γ) G
   unsaid t n {P} = use1 𝓛 (‵ (unsaying n P)) (fronted 𝓛 n P)

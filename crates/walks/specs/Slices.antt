@@ -55,11 +55,11 @@ module _ {M : Type 1} {𝓤 : Ura M} {𝓛 : Logic 𝓤} {K : Type 0} {Γ : List
       → Seq K 𝓛 (‵ ((MutSlice ℓ κ R).own_val x vs) ∷ ‵ (flft κ q) ∷ Γ) G
   opens_mut t z R ℓ x vs k = fsplit t $ pure_l t (mut_slice_at R x vs) (λ p. fsplit t $ opens_slice t z R x.now x.ref_ptr.0 x.ref_ptr.1 $ k p.1)
 
-  pub opens-shr : K → Soaks G → (F : Field) → FLaws F → Copyable F → (ℓ : Lifetime) (x : Bor (List F.row.Denot)) (vs : List Val)
+  pub opens_shr : K → Soaks G → (F : Field) → FLaws F → Copyable F → (ℓ : Lifetime) (x : Bor (List F.row.Denot)) (vs : List Val)
       → ((p : Share × Room F.row (length x.now)) → Seq K 𝓛 (‵ (row F.row p.0 x.now x.ref_ptr.0 x.ref_ptr.1)
       ∷ ‵ (fobor κ q ((arr_parts (shares F.row) (length x.now)).part p.0 x.now x.ref_ptr.0 x.ref_ptr.1)) ∷ Γ) G)
       → Seq K 𝓛 (‵ ((ShrSlice ℓ κ F.row).own_val x vs) ∷ ‵ (flft κ q) ∷ Γ) G
-  opens-shr t z F L copies ℓ x vs k = fsplit t $ pure_l t (shr_slice_at F.row x vs) (λ p. fsplit t $ drop t $
+  opens_shr t z F L copies ℓ x vs k = fsplit t $ pure_l t (shr_slice_at F.row x vs) (λ p. fsplit t $ drop t $
       looks_slice t z F.row (Is F.row) (shows 𝓛 F.row) (λ y. L.val y ∷ []) L.tells (copies.copies M 𝓤 𝓛)
       x.now x.ref_ptr.0 x.ref_ptr.1 (λ q'.
       move t (2 ∷ []) $ drop t $ k (q', p.1)))
@@ -80,11 +80,11 @@ module _ {M : Type 1} {𝓤 : Ura M} {𝓛 : Logic 𝓤} {K : Type 0} {Γ : List
       -- [the new slice; the lender's part at ν; ν's token; the open borrow at κ; obs; auth]
       move t (4 ∷ 5 ∷ []) $ fjoin t $ move t (4 ∷ 0 ∷ []) $ fjoin t $ move t (2 ∷ 0 ∷ []) $ fjoin t $ move t (1 ∷ 2 ∷ 0 ∷ []) $ k (ν, δ, p.1))))
 
-  pub came-back : K → Soaks G → (R : RattleType) (ℓ : Lifetime) (x : MutBor (List R.Denot)) {ν : ℕ} (δ : GName) (zs : List R.Denot)
+  pub came_back : K → Soaks G → (R : RattleType) (ℓ : Lifetime) (x : MutBor (List R.Denot)) {ν : ℕ} (δ : GName) (zs : List R.Denot)
       → Room R (length x.now)
       → (length zs ≡ length x.now → Seq K 𝓛 (‵ ((MutSlice ℓ κ R).own_val (at_last x zs) (mut_slice_vals x)) ∷ ‵ (flft κ q) ∷ Γ) G)
       → Seq K 𝓛 (‵ (flft (ν ∷ []) full_share) ∷ ‵ (Kept R κ q x ν δ) ∷ ‵ (fsep (finally R δ zs) (feq ℕ (length zs) (length x.now))) ∷ Γ) G
-  came-back t z R ℓ x {ν} δ zs room k =
+  came_back t z R ℓ x {ν} δ zs room k =
       let b : ℕ = x.ref_ptr.0 in
       let o : ℕ = x.ref_ptr.1 in
       let ys : List R.Denot = x.now in
@@ -111,9 +111,9 @@ module _ {M : Type 1} {𝓤 : Ura M} {𝓛 : Logic 𝓤} {K : Type 0} {Γ : List
       rewrite t 0 (λ (us : List Val). ‵ ((ShrSlice ℓ' (ν ∷ []) R).own_val (under x δ) us)) (sym p.0) refl $
       move t (4 ∷ 5 ∷ []) $ fjoin t $ move t (4 ∷ 0 ∷ []) $ fjoin t $ move t (2 ∷ 0 ∷ []) $ fjoin t $ move t (1 ∷ 2 ∷ 0 ∷ []) $ k (ν, δ, p))))
 
-  pub came-back-shared : K → Soaks G → (R : RattleType) (ℓ : Lifetime) (x : MutBor (List R.Denot)) (vs : List Val) {ν : ℕ} → shadow (mut_slice_at R x vs)
+  pub came_back_shared : K → Soaks G → (R : RattleType) (ℓ : Lifetime) (x : MutBor (List R.Denot)) (vs : List Val) {ν : ℕ} → shadow (mut_slice_at R x vs)
       → Step K 𝓛 (‵ ((MutSlice ℓ κ R).own_val x vs) ∷ ‵ (flft κ q) ∷ Γ) G (‵ (flft (ν ∷ []) full_share) ∷ ‵ (KeptShared R κ q x ν) ∷ Γ) G
-  came-back-shared t z R ℓ x vs p = step (λ s.
+  came_back_shared t z R ℓ x vs p = step (λ s.
       let b : ℕ = x.ref_ptr.0 in
       let o : ℕ = x.ref_ptr.1 in
       let ys : List R.Denot = x.now in
@@ -123,16 +123,16 @@ module _ {M : Type 1} {𝓤 : Ura M} {𝓛 : Logic 𝓤} {K : Type 0} {Γ : List
 
 module _ {M : Type 1} {𝓤 : Ura M} {𝓛 : Logic 𝓤} {K : Type 0} {Γ : List (Item 𝓤)} {G : Goal 𝓤 𝓛.H} where
   -- once its borrow is closed at ys
-  pub said-last : K → (R : RattleType) (ℓ : Lifetime) (κ : Lft) (γ : GName) (ys : List R.Denot) {n : ℕ} → length ys ≡ n
+  pub said_last : K → (R : RattleType) (ℓ : Lifetime) (κ : Lft) (γ : GName) (ys : List R.Denot) {n : ℕ} → length ys ≡ n
       → Step K 𝓛 (‵ (fsep (finally R γ ys) (feq ℕ (length ys) n)) ∷ Γ) G (‵ (fobs γ ((coded_holeys R).code (heres R ys))) ∷ Γ) G
-  said-last t R ℓ κ γ ys {n} e = step (λ s.
+  said_last t R ℓ κ γ ys {n} e = step (λ s.
       use1 𝓛 (‵ (fres γ ((coded_holeys R).code (heres R ys)))) (𝓛.names.obs-res γ ((coded_holeys R).code (heres R ys))) $
       use1 𝓛 (‵ (finally R γ ys)) (res-finally 𝓛 ℓ κ R γ ys) $ feq_i t ℕ (length ys) n e $ move t (1 ∷ 0 ∷ []) $ fjoin t $ s)
 
 module _ {M : Type 1} {𝓤 : Ura M} {𝓛 : Logic 𝓤} {K : Type 0} {Γ : List (Item 𝓤)} {G : Goal 𝓤 𝓛.H} where
-  pub given-up : K → (R : RattleType) (ℓ : Lifetime) (κ : Lft) (x : MutBor (List R.Denot)) (vs : List Val) {n : ℕ} → length x.now ≡ n
+  pub given_up : K → (R : RattleType) (ℓ : Lifetime) (κ : Lft) (x : MutBor (List R.Denot)) (vs : List Val) {n : ℕ} → length x.now ≡ n
       → Step K 𝓛 (‵ (fsep (finally R x.ghost_name x.now) (feq ℕ (length x.now) n)) ∷ Γ) G (‵ ((MutSlice ℓ κ R).own_val x vs) ∷ Γ) G
-  given-up t R ℓ κ x vs e = step (λ s. fsplit t $ drop t $ fsplit t $ move t (1 ∷ []) $ drop t $ said-last t R ℓ κ x.ghost_name x.now e $ s)
+  given_up t R ℓ κ x vs e = step (λ s. fsplit t $ drop t $ fsplit t $ move t (1 ∷ []) $ drop t $ said_last t R ℓ κ x.ghost_name x.now e $ s)
 
 -- ---- several that are given up at once: what they own, in a star, for what is said of each
 pub record Lent : Type 2 where
@@ -152,10 +152,10 @@ module _ {M : Type 1} {𝓤 : Ura M} (𝓛 : Logic 𝓤) where
   all_go : (ls : List Lent) (xs : Denots (slices ls)) (vss : Valss (slices ls)) → ent 𝓤 (sem 𝓛 (owns (slices ls) xs vss)) (sem 𝓛 (said_of ls xs))
   all_go [] xs vss = id⊢ 𝓤 _
   all_go (l ∷ ls) xs vss =
-      qed 𝓛 (‵ (owns (slices (l ∷ ls)) xs vss) ∷ []) ∵ fsplit ! $ given-up ! l.row l.name l.lft xs.0 vss.0 refl $
+      qed 𝓛 (‵ (owns (slices (l ∷ ls)) xs vss) ∷ []) ∵ fsplit ! $ given_up ! l.row l.name l.lft xs.0 vss.0 refl $
       framed ! $ by ! (all_go ls xs.1 vss.1)
 
 module _ {M : Type 1} {𝓤 : Ura M} {𝓛 : Logic 𝓤} {K : Type 0} {Γ : List (Item 𝓤)} {G : Goal 𝓤 𝓛.H} where
-  pub all-given-up : K → (ls : List Lent) (xs : Denots (slices ls)) (vss : Valss (slices ls))
+  pub all_given_up : K → (ls : List Lent) (xs : Denots (slices ls)) (vss : Valss (slices ls))
       → Step K 𝓛 (‵ (said_of ls xs) ∷ Γ) G (‵ (owns (slices ls) xs vss) ∷ Γ) G
-  all-given-up t ls xs vss = use1 𝓛 (‵ (said_of ls xs)) (all_go 𝓛 ls xs vss)
+  all_given_up t ls xs vss = use1 𝓛 (‵ (said_of ls xs)) (all_go 𝓛 ls xs vss)

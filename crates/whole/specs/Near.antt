@@ -34,12 +34,12 @@ Close g a step = (2 * g ≤ 2 * a + step) × (2 * a ≤ 2 * g + step)
 half_lt : (q b r a : ℕ) → q * b + r ≡ a → r * 2 < b → Close (q * b) a b
 half_lt q b r a e h = (omega arith, omega arith)
 
-half-gt : (q b r a : ℕ) → q * b + r ≡ a → r < b → b < r * 2 → Close (suc q * b) a b
-half-gt q b r a e l h = let k = suc-mul q b in (omega arith, omega arith)
+half_gt : (q b r a : ℕ) → q * b + r ≡ a → r < b → b < r * 2 → Close (suc q * b) a b
+half_gt q b r a e l h = let k = suc-mul q b in (omega arith, omega arith)
 
-half-eq : (q t b r a : ℕ) → q * b + r ≡ a → t ≤ 1 → r * 2 ≡ b → Close ((q + t) * b) a b
-half-eq q zero b r a e l h = let k = add-mul q zero b in let z = zero-mul b in (omega arith, omega arith)
-half-eq q (suc t) b r a e l h =
+half_eq : (q t b r a : ℕ) → q * b + r ≡ a → t ≤ 1 → r * 2 ≡ b → Close ((q + t) * b) a b
+half_eq q zero b r a e l h = let k = add-mul q zero b in let z = zero-mul b in (omega arith, omega arith)
+half_eq q (suc t) b r a e l h =
     let k = add-mul q (suc t) b in
     let s : suc t ≡ 1 = omega arith in
     let o : suc t * b ≡ b = ap (λ (x : ℕ). x * b) s ∙ one-mul b in
@@ -48,15 +48,15 @@ half-eq q (suc t) b r a e l h =
 parity : (q : ℕ) → q % 2 ≤ 1
 parity q = omega arith
 
-closest-near : (a b : ℕ) → 0 < b → Close (closest a b * b) a b
-closest-near a b h =
+closest_near : (a b : ℕ) → 0 < b → Close (closest a b * b) a b
+closest_near a b h =
     go (compare (a % b * 2) b) (leb→le (a % b * 2) b) (nleb→lt (a % b * 2) b) (eqb→eq (a % b * 2) b) eq→eqb
   where
     go : (o : Ordering) → (T (is_le o) → a % b * 2 ≤ b) → (T (not (is_le o)) → b < a % b * 2) → (T (compare_is_eq o) → a % b * 2 ≡ b) → (a % b * 2 ≡ b → T (compare_is_eq o))
         → Close (nearest (a / b) o * b) a b
     go Ordering.lt l g e n = let k : a % b * 2 ≡ b → ⊥ = n in let m : a % b * 2 ≤ b = l tt in half_lt (a / b) b (a % b) a (div-add-mod' a b) (omega arith)
-    go Ordering.eq l g e n = half-eq (a / b) (a / b % 2) b (a % b) a (div-add-mod' a b) (parity (a / b)) (e tt)
-    go Ordering.gt l g e n = half-gt (a / b) b (a % b) a (div-add-mod' a b) (mod-lt a h) (g tt)
+    go Ordering.eq l g e n = half_eq (a / b) (a / b % 2) b (a % b) a (div-add-mod' a b) (parity (a / b)) (e tt)
+    go Ordering.gt l g e n = half_gt (a / b) b (a % b) a (div-add-mod' a b) (mod-lt a h) (g tt)
 
 -- ---- how many digits `round` drops of n * 2 ^ l, for an n with more than p digits and at most p + e
 lower : (p l m z : ℕ) → 2 ^ (p + l) ≤ m → m < 2 ^ z → p + l < z
@@ -119,8 +119,8 @@ stepped x q K L E n t p g s v h = let a = h.0 in let b = h.1 in scaled x (q * K)
 under : (G N K A B : ℕ) → 2 * G ≤ 2 * N + K → N < A → K ≤ A → 2 * A ≤ B → G < B
 under G N K A B a b c d = omega arith
 
-split-pow : (k l : ℕ) → l ≤ k → 2 ^ k ≡ 2 ^ (k - l) * 2 ^ l
-split-pow k l h = let e : k ≡ (k - l) + l = omega arith in ap (λ (x : ℕ). 2 ^ x) e ∙ pow-add 2 (k - l) l
+split_pow : (k l : ℕ) → l ≤ k → 2 ^ k ≡ 2 ^ (k - l) * 2 ^ l
+split_pow k l h = let e : k ≡ (k - l) + l = omega arith in ap (λ (x : ℕ). 2 ^ x) e ∙ pow-add 2 (k - l) l
 
 module _ (f : Format) (n e : ℕ) (small : n < 2 ^ (prec f + e)) (large : 2 ^ prec f ≤ n) (room : prec f + e ≤ emax f) where
   far : Near n (2 ^ e) (round f false n 1)
@@ -132,9 +132,9 @@ module _ (f : Format) (n e : ℕ) (small : n < 2 ^ (prec f + e)) (large : 2 ^ pr
       let hi : d ≤ l + e = at_most f n e small large in
       let q = kept (prec f) (n * 2 ^ l) 1 in
       let near : Close (q * 2 ^ d) (n * 2 ^ l) (2 ^ d) =
-      subst (λ (u : ℕ). Close (q * u) (n * 2 ^ l) u) (one-mul (2 ^ d)) (closest-near (n * 2 ^ l) (1 * 2 ^ d) (mul-pos (zero-lt-suc 0) (pow_pos d))) in
+      subst (λ (u : ℕ). Close (q * u) (n * 2 ^ l) u) (one-mul (2 ^ d)) (closest_near (n * 2 ^ l) (1 * 2 ^ d) (mul-pos (zero-lt-suc 0) (pow_pos d))) in
       let step : 2 ^ d ≤ 2 ^ e * 2 ^ l = le_trans (pow_mono hi) (le_of_eq (pow-add 2 l e ∙ mul_comm (2 ^ l) (2 ^ e))) in
-      let all : q * 2 ^ d ≡ q * 2 ^ (d - l) * 2 ^ l = ap (λ (x : ℕ). q * x) (split-pow d l lo) ∙ sym (mul_assoc q (2 ^ (d - l)) (2 ^ l)) in
+      let all : q * 2 ^ d ≡ q * 2 ^ (d - l) * 2 ^ l = ap (λ (x : ℕ). q * x) (split_pow d l lo) ∙ sym (mul_assoc q (2 ^ (d - l)) (2 ^ l)) in
       let top : n * 2 ^ l < 2 ^ (prec f + e + l) = shl_lt (prec f + e) l small in
       let mid : 2 ^ d ≤ 2 ^ (prec f + e + l) = pow_mono (omega arith) in
       let twice : 2 * 2 ^ (prec f + e + l) ≤ overflow f = le_trans (le_of_eq (sym (pow-succ' 2 (prec f + e + l)))) (pow_mono (omega arith)) in
@@ -142,12 +142,12 @@ module _ (f : Format) (n e : ℕ) (small : n < 2 ^ (prec f + e)) (large : 2 ^ pr
       stepped (round f false n 1) q (2 ^ d) (2 ^ l) (2 ^ e) n (q * 2 ^ (d - l)) (pow_pos l) all step (round_val f n 1 low) near
 
 -- ---- any whole number below 2 ^ (prec + e)
-round-near : (f : Format) (n e : ℕ) → n < 2 ^ (prec f + e) → prec f + e ≤ emax f → Near n (2 ^ e) (round f false n 1)
-round-near f n e small room = elim (dec_le (2 ^ prec f) n) [
+round_near : (f : Format) (n e : ℕ) → n < 2 ^ (prec f + e) → prec f + e ≤ emax f → Near n (2 ^ e) (round f false n 1)
+round_near f n e small room = elim (dec_le (2 ^ prec f) n) [
   | yes g ↦ far f n e small g room
   | no g ↦ let h : 2 ^ prec f ≤ n → ⊥ = g in record { to = n; value = round_whole f false n (omega arith); above = omega arith; below = omega arith }
 ]
 
-pub whole-near : (n e : ℕ) → n < 2 ^ (24 + e) → e ≤ 103 → Near n (2 ^ e) (whole n)
+pub whole_near : (n e : ℕ) → n < 2 ^ (24 + e) → e ≤ 103 → Near n (2 ^ e) (whole n)
 unfolding whole of_int
-whole-near n e small room = round-near binary32 n e small (omega arith)
+whole_near n e small room = round_near binary32 n e small (omega arith)

@@ -19,13 +19,13 @@ same false true f g = absurd (g tt)
 same false false f g = refl
 
 -- ---- tests on two numbers, each scaled by one factor
-scale-lt : (a b d : ℕ) → 0 < d → ltb (a * d) (b * d) ≡ ltb a b
-scale-lt a b d h = same (ltb (a * d) (b * d)) (ltb a b)
+scale_lt : (a b d : ℕ) → 0 < d → ltb (a * d) (b * d) ≡ ltb a b
+scale_lt a b d h = same (ltb (a * d) (b * d)) (ltb a b)
     (λ t. lt→ltb a b (lt_of_mul-lt-mul_right d (ltb→lt (a * d) (b * d) t)))
     (λ t. lt→ltb (a * d) (b * d) (mul-lt-mul_of_pos_right (ltb→lt a b t) h))
 
-scale-eq : (a b d : ℕ) → 0 < d → eqb (a * d) (b * d) ≡ eqb a b
-scale-eq a b d h = same (eqb (a * d) (b * d)) (eqb a b)
+scale_eq : (a b d : ℕ) → 0 < d → eqb (a * d) (b * d) ≡ eqb a b
+scale_eq a b d h = same (eqb (a * d) (b * d)) (eqb a b)
     (λ t. eq→eqb (eq_of_mul-eq-mul_right d h a b (eqb→eq (a * d) (b * d) t)))
     (λ t. eq→eqb (ap (λ (x : ℕ). x * d) (eqb→eq a b t)))
 
@@ -44,33 +44,33 @@ nonzero n d b h k = same (eqb n 0) false (λ t. lt_irrefl 0 (subst (λ (x : ℕ)
     none t = sym h ∙ ap (λ (z : ℕ). z * up d * 1) (eqb→eq n 0 t) ∙ ap (λ (z : ℕ). z * 1) (zero-mul (up d))
 
 -- ---- the operations
-pub lt-values : (x y : Float) (a b : ℕ) → HasValue x false a 1 → HasValue y false b 1 → lt x y ≡ ltb a b
+pub lt_values : (x y : Float) (a b : ℕ) → HasValue x false a 1 → HasValue y false b 1 → lt x y ≡ ltb a b
 unfolding lt
-lt-values (fin true m e) y a b p q = absurd (true≢false p.0)
-lt-values (fin false m e) (fin true n d) a b p q = absurd (true≢false q.0)
-lt-values (fin false m e) (fin false n d) a b p q =
-    rw (over m e d a p.1, other n e d b q.1) (scale-lt a b (down e * down d) (mul-pos (down_pos e) (down_pos d)))
+lt_values (fin true m e) y a b p q = absurd (true≢false p.0)
+lt_values (fin false m e) (fin true n d) a b p q = absurd (true≢false q.0)
+lt_values (fin false m e) (fin false n d) a b p q =
+    rw (over m e d a p.1, other n e d b q.1) (scale_lt a b (down e * down d) (mul-pos (down_pos e) (down_pos d)))
 
-pub eq-values : (x y : Float) (a b : ℕ) → HasValue x false a 1 → HasValue y false b 1 → eq x y ≡ eqb a b
+pub eq_values : (x y : Float) (a b : ℕ) → HasValue x false a 1 → HasValue y false b 1 → eq x y ≡ eqb a b
 unfolding eq
-eq-values (fin true m e) y a b p q = absurd (true≢false p.0)
-eq-values (fin false m e) (fin true n d) a b p q = absurd (true≢false q.0)
-eq-values (fin false m e) (fin false n d) a b p q =
-    rw (over m e d a p.1, other n e d b q.1, and-true) (scale-eq a b (down e * down d) (mul-pos (down_pos e) (down_pos d)))
+eq_values (fin true m e) y a b p q = absurd (true≢false p.0)
+eq_values (fin false m e) (fin true n d) a b p q = absurd (true≢false q.0)
+eq_values (fin false m e) (fin false n d) a b p q =
+    rw (over m e d a p.1, other n e d b q.1, and-true) (scale_eq a b (down e * down d) (mul-pos (down_pos e) (down_pos d)))
 
-pub add-values : (x y : Float) (a b : ℕ) → HasValue x false a 1 → HasValue y false b 1 → add binary32 x y ≡ whole (a + b)
+pub add_values : (x y : Float) (a b : ℕ) → HasValue x false a 1 → HasValue y false b 1 → add binary32 x y ≡ whole (a + b)
 unfolding add whole of_int
-add-values (fin true m e) y a b p q = absurd (true≢false p.0)
-add-values (fin false m e) (fin true n d) a b p q = absurd (true≢false q.0)
-add-values (fin false m e) (fin false n d) a b p q =
+add_values (fin true m e) y a b p q = absurd (true≢false p.0)
+add_values (fin false m e) (fin true n d) a b p q = absurd (true≢false q.0)
+add_values (fin false m e) (fin false n d) a b p q =
     round_same binary32 false (m * up e * down d + n * up d * down e) (down e * down d) (a + b) 1 (mul-pos (down_pos e) (down_pos d)) (zero-lt-suc 0)
     (rw (over m e d a p.1, other n e d b q.1, mul-one, add-mul))
 
-pub div-values : (x y : Float) (a b : ℕ) → HasValue x false a 1 → HasValue y false b 1 → 0 < b → div binary32 x y ≡ round binary32 false a b
+pub div_values : (x y : Float) (a b : ℕ) → HasValue x false a 1 → HasValue y false b 1 → 0 < b → div binary32 x y ≡ round binary32 false a b
 unfolding div
-div-values (fin true m e) y a b p q h = absurd (true≢false p.0)
-div-values (fin false m e) (fin true n d) a b p q h = absurd (true≢false q.0)
-div-values (fin false m e) (fin false n d) a b p q h =
+div_values (fin true m e) y a b p q h = absurd (true≢false p.0)
+div_values (fin false m e) (fin true n d) a b p q h = absurd (true≢false q.0)
+div_values (fin false m e) (fin false n d) a b p q h =
     rw (nonzero n d b q.1 h)
     (round_same binary32 false (m * up e * down d) (n * up d * down e) a b
     (subst (λ (x : ℕ). 0 < x) (sym (other n e d b q.1)) (mul-pos h (mul-pos (down_pos e) (down_pos d)))) h

@@ -36,33 +36,33 @@ module _ (n : ℕ) (h : n ≤ limit) where
   value = round_whole binary32 false n h
 
   -- what the cast `n as f32` asks
-  pub in-float : T (in_float binary32 (pos n))
+  pub in_float_lem : T (in_float binary32 (pos n))
   unfolding in_float
-  in-float = le→leb n limit h
+  in_float_lem = le→leb n limit h
 
-  pub count-whole : count (whole n) ≡ n
+  pub count_whole : count (whole n) ≡ n
   unfolding whole
-  count-whole = (unsigned_back binary32 32 n in-float (lt_of_le_of_lt h (lit< tt))).1
+  count_whole = (unsigned_back binary32 32 n in_float_lem (lt_of_le_of_lt h (lit< tt))).1
 
-  in-unsigned : T (in_unsigned binary32 32 (whole n))
+  in_unsigned_lem : T (in_unsigned binary32 32 (whole n))
   unfolding whole
-  in-unsigned = (unsigned_back binary32 32 n in-float (lt_of_le_of_lt h (lit< tt))).0
+  in_unsigned_lem = (unsigned_back binary32 32 n in_float_lem (lt_of_le_of_lt h (lit< tt))).0
 
   pub is_whole : IsWhole (whole n)
-  is_whole = record { is = ap whole (sym count-whole); small = subst (λ (x : ℕ). x ≤ limit) (sym count-whole) h }
+  is_whole = record { is = ap whole (sym count_whole); small = subst (λ (x : ℕ). x ≤ limit) (sym count_whole) h }
 
 -- what the cast back, `x as u32`, asks
-pub count-in-unsigned : (x : Float) → IsWhole x → T (in_unsigned binary32 32 x)
-count-in-unsigned x p = subst (λ (z : Float). T (in_unsigned binary32 32 z)) (sym p.is) (in-unsigned (count x) p.small)
+pub count_in_unsigned : (x : Float) → IsWhole x → T (in_unsigned binary32 32 x)
+count_in_unsigned x p = subst (λ (z : Float). T (in_unsigned binary32 32 z)) (sym p.is) (in_unsigned_lem (count x) p.small)
 
 -- the literal 0.0 of code
-pub zero-whole : whole 0 ≡ of_bits binary32 0
+pub zero_whole : whole 0 ≡ of_bits binary32 0
 unfolding whole of_int of_bits
-zero-whole = refl
+zero_whole = refl
 
 pub nought-whole : nought ≡ whole 0
 unfolding nought
-nought-whole = sym zero-whole
+nought-whole = sym zero_whole
 
 -- ---- an f32 whose value is the whole number n is `whole n`, however large n is
 scaled : (m k : ℕ) → m < 2 ^ 24 → m * 2 ^ k < 2 ^ 128 → HasValue (whole (m * 2 ^ k)) false (m * 2 ^ k) 1
@@ -73,12 +73,12 @@ scaled m k s h =
     (subst (λ (x : ℕ). x < 2 ^ 277) (sym eq) (mul-lt-mul_of_pos_right h (pow_pos 149))) (sym eq ∙ sym (mul-one (m * 2 ^ (k + 149))))
 
 -- a part of a whole number is no larger
-part-le : (n : ℕ) (e : ℤ) → n ≤ n * down e
-part-le n e = let h : n * 1 ≤ n * down e = mul-le-mul (le_refl n) (down_pos e) in let o = mul-one n in omega arith
+part_le : (n : ℕ) (e : ℤ) → n ≤ n * down e
+part_le n e = let h : n * 1 ≤ n * down e = mul-le-mul (le_refl n) (down_pos e) in let o = mul-one n in omega arith
 
 beyond : (s : Bool) (m : ℕ) (e : ℤ) (n : ℕ) → T (fits binary32 (fin s m e)) → m * up e * 1 ≡ n * down e → limit < n → HasValue (whole n) false n 1
 unfolding fits
-beyond s zero e n f v l = absurd (let p = part-le n e in let z : zero * up e * 1 ≡ 0 = ap (λ (x : ℕ). x * 1) (zero-mul (up e)) in omega arith)
+beyond s zero e n f v l = absurd (let p = part_le n e in let z : zero * up e * 1 ≡ 0 = ap (λ (x : ℕ). x * 1) (zero-mul (up e)) in omega arith)
 beyond s (suc m) e n f v l =
     let a = eqb (suc m % 2) 1 in
     let b = ltb (suc m) (2 ^ 24) in
@@ -89,7 +89,7 @@ beyond s (suc m) e n f v l =
   where
     at : (e : ℤ) → suc m < 2 ^ 24 → suc m * up e < 2 ^ 128 * down e → suc m * up e * 1 ≡ n * down e → HasValue (whole n) false n 1
     at (pos k) s hi v = subst (λ (x : ℕ). HasValue (whole x) false x 1) (sym (mul-one (suc m * 2 ^ k)) ∙ v ∙ mul-one n) (scaled (suc m) k s hi)
-    at (negsuc k) s hi v = absurd (let p = part-le n (negsuc k) in let o : suc m * 1 * 1 ≡ suc m = mul-one (suc m * 1) ∙ mul-one (suc m) in omega arith)
+    at (negsuc k) s hi v = absurd (let p = part_le n (negsuc k) in let o : suc m * 1 * 1 ≡ suc m = mul-one (suc m * 1) ∙ mul-one (suc m) in omega arith)
 
 held : (x : Float) (n : ℕ) → T (fits binary32 x) → HasValue x false n 1 → HasValue (whole n) false n 1
 held (fin s m e) n f v = elim (dec_le n limit) [

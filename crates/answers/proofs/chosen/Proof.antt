@@ -11,5 +11,5 @@ returns : tie.Need-returns
 unfolding nought
 returns c = c.plain.ensures
 
-pub chosen-spec : {M : Type 1} → statement M
-chosen-spec = tie.close (tie.spec plain-requires returns)
+pub chosen_spec : {M : Type 1} → statement M
+chosen_spec = tie.close (tie.spec plain-requires returns)

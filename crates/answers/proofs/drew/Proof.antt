@@ -11,5 +11,5 @@ returns : tie.Need-returns
 unfolding nought
 returns c = c.plain.ensures
 
-pub drew-spec : {M : Type 1} → statement M
-drew-spec = tie.close (tie.spec plain-requires returns)
+pub drew_spec : {M : Type 1} → statement M
+drew_spec = tie.close (tie.spec plain-requires returns)

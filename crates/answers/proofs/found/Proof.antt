@@ -11,5 +11,5 @@ returns : tie.Need-returns
 unfolding nought
 returns c = c.plain.ensures
 
-pub found-spec : {M : Type 1} → statement M
-found-spec = tie.close (tie.spec plain-requires returns)
+pub found_spec : {M : Type 1} → statement M
+found_spec = tie.close (tie.spec plain-requires returns)

@@ -8,5 +8,5 @@ returns : tie.Need-returns
 unfolding answer
 returns c = refl
 
-pub plain-spec : {M : Type 1} → statement M
-plain-spec = tie.close (tie.spec returns)
+pub plain_spec : {M : Type 1} → statement M
+plain_spec = tie.close (tie.spec returns)

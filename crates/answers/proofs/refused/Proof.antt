@@ -12,5 +12,5 @@ returns : tie.Need-returns
 unfolding refused nought
 returns c = c.plain.ensures
 
-pub refused-spec : {M : Type 1} → statement M
-refused-spec = tie.close (tie.spec plain-requires returns)
+pub refused_spec : {M : Type 1} → statement M
+refused_spec = tie.close (tie.spec plain-requires returns)

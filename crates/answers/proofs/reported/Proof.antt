@@ -8,5 +8,5 @@ returns : tie.Need-returns
 unfolding reported
 returns c = refl
 
-pub reported-spec : {M : Type 1} → statement M
-reported-spec = tie.close (tie.spec returns)
+pub reported_spec : {M : Type 1} → statement M
+reported_spec = tie.close (tie.spec returns)

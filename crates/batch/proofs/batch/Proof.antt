@@ -1,8 +1,8 @@
 -- `batch` meets its contract: the number, the run, the room.
 use mathlib.Core.Path.{◌≡◌, refl, sym, ◌∙◌}
 use borrow.Author.Rules.{rules}
-use Rattle.definition.specs.Refusals.{BatchCall, batchNumber}
-use Rattle.batch.specs.Batched.{batch-degree, batch-marks, batch-ready, batch-room, batch-done, batch-refused}
+use Rattle.definition.specs.Refusals.{BatchCall, batch_number}
+use Rattle.batch.specs.Batched.{batch_degree, batch_marks, batch_ready, batch_room, batch-done, batch-refused}
 use Rattle.batch.proofs.batch.Statement.{statement}
 use Rattle.batch.proofs.batch.Tie as tie
 
@@ -27,10 +27,10 @@ call s =
 abbrev called : tie.After-batch-number → tie.Start
 called c = c.before.before.before.before.before.before.before.before
 
-numbered : (c : tie.After-batch-number) → c.batch-number.result ≡ batchNumber (call (called c))
-numbered c = c.batch-number.ensures.is (called c).args.words.now (called c).args.floats.now refl refl
+numbered : (c : tie.After-batch-number) → c.batch_number_lem.result ≡ batch_number (call (called c))
+numbered c = c.batch_number_lem.ensures.is (called c).args.words.now (called c).args.floats.now refl refl
 
-accepted : (c : tie.Else1) → batchNumber (call (called c.before)) ≡ 0
+accepted : (c : tie.Else1) → batch_number (call (called c.before)) ≡ 0
 accepted c = sym (numbered c.before) ∙ c.if1.false
 
 batch-number-requires : tie.Need-batch-number-requires
@@ -46,10 +46,10 @@ returns : tie.Need-returns
 returns c = batch-refused (numbered c.before.before) c.before.if1.true c.refused.ensures
 
 slack-requires : tie.Need-slack-requires
-slack-requires c κs = batch-degree (call (called c.before)) (accepted c)
+slack-requires c κs = batch_degree (call (called c.before)) (accepted c)
 
 first-epoch-requires : tie.Need-first-epoch-requires
-first-epoch-requires c κs = let taken = c.before.before in batch-marks (call (called taken.before)) (accepted taken)
+first-epoch-requires c κs = let taken = c.before.before in batch_marks (call (called taken.before)) (accepted taken)
 
 -- from the marks cleared back to where no check refused
 abbrev passed : tie.After-first-epoch → tie.Else1
@@ -59,14 +59,14 @@ run-batch-requires : tie.Need-run-batch-requires
 run-batch-requires c κs =
     let first = c.before.before.before.before.before in
     let taken = passed first in
-    batch-ready (call (called taken.before)) (accepted taken) first.before.before.slack.ensures first.first-epoch.ensures
+    batch_ready (call (called taken.before)) (accepted taken) first.before.before.slack.ensures first.first-epoch.ensures
 
 clear-room-requires : tie.Need-clear-room-requires
 clear-room-requires c κs =
     let run = c.before.before.before.before.before.before.before.before in
     let first = run.before.before.before.before.before.before in
     let taken = passed first in
-    batch-room (call (called taken.before)) (accepted taken) first.before.before.slack.ensures first.first-epoch.ensures run.run-batch.ensures
+    batch_room (call (called taken.before)) (accepted taken) first.before.before.slack.ensures first.first-epoch.ensures run.run-batch.ensures
 
 done-requires : tie.Need-done-requires
 done-requires c κs = search rules
@@ -89,8 +89,8 @@ returns-2 c =
     batch-done (call (called taken.before)) (accepted taken) first.before.before.slack.ensures first.first-epoch.ensures run.run-batch.ensures
     c.done.ensures cleared.clear-Room.ensures
 
-pub batch-spec : {M : Type 1} → statement M
-batch-spec =
+pub batch_spec : {M : Type 1} → statement M
+batch_spec =
     tie.close
     (tie.spec
     batch-number-requires

@@ -1,6 +1,6 @@
 -- `run_batch` meets its contract: stamps cleared, fresh rows, merge.
 use borrow.Author.Rules.{rules}
-use Rattle.batch.proofs.Running.{fresh-asks, merge-asks, batch_run}
+use Rattle.batch.proofs.Running.{fresh_asks, merge_asks, batch_run}
 use Rattle.batch.proofs.run_batch.Statement.{statement}
 use Rattle.batch.proofs.run_batch.Tie as tie
 
@@ -32,14 +32,14 @@ clear-words-requires c κs = search rules
 fresh-rows-requires : tie.Need-fresh-rows-requires
 fresh-rows-requires c κs =
     let stamps = c.before.before.before.before.before in
-    fresh-asks (called stamps).requires stamps.before.before.before.stamps-at.ensures stamps.before.before.pool-dists-at.ensures
+    fresh_asks (called stamps).requires stamps.before.before.before.stamps-at.ensures stamps.before.before.pool-dists-at.ensures
     _ stamps.clear-words.ensures
 
 merge-requires : tie.Need-merge-requires
 merge-requires c κs =
     let rows = c.before.before.before.before.before.before.before in
     let stamps = rows.before.before.before.before.before.before in
-    merge-asks (called stamps).requires stamps.before.before.before.stamps-at.ensures stamps.before.before.pool-dists-at.ensures
+    merge_asks (called stamps).requires stamps.before.before.before.stamps-at.ensures stamps.before.before.pool-dists-at.ensures
     _ stamps.clear-words.ensures rows.fresh-rows.ensures.0
 
 same_length : tie.Need-same-length
@@ -60,8 +60,8 @@ returns c =
     batch_run (called stamps).requires stamps.before.before.before.stamps-at.ensures stamps.before.before.pool-dists-at.ensures
     _ stamps.clear-words.ensures made.0 made.1.0 made.1.1 merged.merge.ensures
 
-pub run-batch-spec : {M : Type 1} → statement M
-run-batch-spec =
+pub run_batch_spec : {M : Type 1} → statement M
+run_batch_spec =
     tie.close
     (tie.spec
     stamps-at-requires

@@ -1,7 +1,7 @@
 -- `base` meets its contract: the part that is lent is the row of the wide table, or the fresh row.
 use native.Mathlib.Omega.{arith}
 use borrow.Author.Rules.{rules}
-use Rattle.batch_affected.proofs.Gathering.{base-wide, base-fresh}
+use Rattle.batch_affected.proofs.Gathering.{base_wide, base_fresh}
 use Rattle.batch_affected.proofs.base.Statement.{statement}
 use Rattle.batch_affected.proofs.base.Tie as tie
 
@@ -45,13 +45,13 @@ part-result-end-2 : tie.Need-slice-bounds-result-end-2
 part-result-end-2 c = search rules
 
 returns : tie.Need-returns
-returns c = base-wide _ _ _ _ _ (omega arith)
+returns c = base_wide _ _ _ _ _ (omega arith)
 
 returns-2 : tie.Need-returns-2
-returns-2 c = base-fresh _ _ _ _ _ (λ e. omega arith) c.before.fresh-row-at.ensures
+returns-2 c = base_fresh _ _ _ _ _ (λ e. omega arith) c.before.fresh-row-at.ensures
 
-pub base-spec : {M : Type 1} → statement M
-base-spec =
+pub base_spec : {M : Type 1} → statement M
+base_spec =
     tie.close
     (tie.spec
     mul-a

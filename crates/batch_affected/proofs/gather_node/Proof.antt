@@ -1,7 +1,7 @@
 -- `gather_node` meets its contract: the seat, the base's ids, then the chain's nodes.
 use native.Mathlib.Omega.{arith}
 use borrow.Author.Rules.{rules}
-use Rattle.batch_affected.proofs.Gathering.{base-asks, row-asks, naming-asks, all-gathered}
+use Rattle.batch_affected.proofs.Gathering.{base_asks, row_asks, naming_asks, all_gathered}
 use Rattle.batch_affected.proofs.gather_node.Statement.{statement}
 use Rattle.batch_affected.proofs.gather_node.Tie as tie
 
@@ -31,7 +31,7 @@ base-requires : tie.Need-base-requires
 base-requires c κs =
     let s = called c in
     let seats = c.before.before in
-    base-asks s.pre.1 s.pre.0.0 s.pre.0.1 _ _ seats.seats-at.ensures seats.before.index_of.ensures c.index-of2.ensures
+    base_asks s.pre.1 s.pre.0.0 s.pre.0.1 _ _ seats.seats-at.ensures seats.before.index_of.ensures c.index-of2.ensures
     _ s.pre.0.3
 
 add-row-requires : tie.Need-add-row-requires
@@ -39,7 +39,7 @@ add-row-requires c κs =
     let seated = c.before.before in
     let s = called seated in
     let seats = seated.before.before in
-    row-asks s.pre.1 s.pre.0.0 s.pre.0.1 _ _ seats.seats-at.ensures seats.before.index_of.ensures seated.index-of2.ensures
+    row_asks s.pre.1 s.pre.0.0 s.pre.0.1 _ _ seats.seats-at.ensures seats.before.index_of.ensures seated.index-of2.ensures
     _ _ c.before.base.ensures _ (omega arith)
 
 add-naming-requires : tie.Need-add-naming-requires
@@ -47,7 +47,7 @@ add-naming-requires c κs =
     let seated = c.before.before.before.before.before.before in
     let s = called seated in
     let seats = seated.before.before in
-    naming-asks s.pre.1 s.pre.0.0 s.pre.0.1 _ _ seats.seats-at.ensures seats.before.index_of.ensures seated.index-of2.ensures
+    naming_asks s.pre.1 s.pre.0.0 s.pre.0.1 _ _ seats.seats-at.ensures seats.before.index_of.ensures seated.index-of2.ensures
     _ _ c.before.before.before.before.before.base.ensures c.before.before.before.add_row.ensures (omega arith)
 
 same_length : tie.Need-same-length
@@ -59,11 +59,11 @@ returns c =
     let seated = read.before in
     let s = called seated in
     let seats = seated.before.before in
-    all-gathered s.pre.1 s.pre.0.0 s.pre.0.1 _ _ seats.seats-at.ensures seats.before.index_of.ensures seated.index-of2.ensures
+    all_gathered s.pre.1 s.pre.0.0 s.pre.0.1 _ _ seats.seats-at.ensures seats.before.index_of.ensures seated.index-of2.ensures
     _ _ read.base.ensures c.before.before.before.before.before.before.add_row.ensures c.before.before.add-naming.ensures
 
-pub gather-node-spec : {M : Type 1} → statement M
-gather-node-spec =
+pub gather_node_spec : {M : Type 1} → statement M
+gather_node_spec =
     tie.close
     (tie.spec
     index-of-requires

@@ -2,7 +2,7 @@
 use native.Mathlib.Omega.{arith}
 use borrow.Author.Rules.{rules}
 use Rattle.given.specs.Fresh.{merging}
-use Rattle.batch_chains.proofs.Along.{front, Along, along-start, along-on, along-less, along-end}
+use Rattle.batch_chains.proofs.Along.{front, Along, along_start, along_on, along_less, along_end}
 use Rattle.batch_chains.proofs.add_naming.Statement.{statement}
 use Rattle.batch_chains.proofs.add_naming.Tie as tie
 
@@ -41,7 +41,7 @@ loop-holds : tie.Need-loop-init invariant-loop decreases-loop
 loop-holds c =
     let headed = c.before.before.before in
     let s = headed.before.before.before.before.before in
-    along-start s.requires.0.0 s.requires.1.0 headed.heads-at.ensures headed.before.index_of.ensures c.index-of2.ensures s.requires.1.1
+    along_start s.requires.0.0 s.requires.1.0 headed.heads-at.ensures headed.before.index_of.ensures c.index-of2.ensures s.requires.1.1
 
 sub-a : tie.Need-overflow-sub-a invariant-loop decreases-loop
 sub-a c = search rules
@@ -71,13 +71,13 @@ loop-less : tie.Need-loop-smaller invariant-loop decreases-loop
 loop-less c =
     let turn = c.before.before.before.before.before.before.before.before in
     let s = called turn in
-    along-less s.pre.0.0 s.pre.1.0 turn.loop.invariant (omega arith) turn.before.before.before.links-at.ensures c.index-of3.ensures
+    along_less s.pre.0.0 s.pre.1.0 turn.loop.invariant (omega arith) turn.before.before.before.links-at.ensures c.index-of3.ensures
 
 loop-again : tie.Need-loop-preserved invariant-loop decreases-loop
 loop-again c =
     let turn = c.before.before.before.before.before.before.before.before in
     let s = called turn in
-    along-on s.pre.0.0 s.pre.1.0 turn.loop.invariant (omega arith) turn.before.before.before.links-at.ensures c.index-of3.ensures
+    along_on s.pre.0.0 s.pre.1.0 turn.loop.invariant (omega arith) turn.before.before.before.links-at.ensures c.index-of3.ensures
     c.before.before.before.before.add-word.ensures (omega arith)
 
 same_length : tie.Need-same-length invariant-loop decreases-loop
@@ -87,10 +87,10 @@ returns : tie.Need-returns invariant-loop decreases-loop
 returns c =
     let turn = c.before in
     let s = called turn in
-    along-end s.pre.0.0 s.pre.1.0 turn.loop.invariant (λ h. omega arith)
+    along_end s.pre.0.0 s.pre.1.0 turn.loop.invariant (λ h. omega arith)
 
-pub add-naming-spec : {M : Type 1} → statement M
-add-naming-spec =
+pub add_naming_spec : {M : Type 1} → statement M
+add_naming_spec =
     tie.close
     (tie.spec
     invariant-loop

@@ -2,7 +2,7 @@
 use native.Mathlib.Omega.{arith}
 use lib.ListN.{length-set}
 use borrow.Author.Rules.{rules}
-use Rattle.batch_chains.proofs.Chaining.{one-past, one-linked}
+use Rattle.batch_chains.proofs.Chaining.{one_past, one_linked}
 use Rattle.batch_chains.proofs.link_entry.Statement.{statement}
 use Rattle.batch_chains.proofs.link_entry.Tie as tie
 
@@ -22,7 +22,7 @@ index-of-requires : tie.Need-index-of-requires
 index-of-requires c κs = search rules
 
 returns : tie.Need-returns
-returns c = one-past _ _ _ c.before.before.before.fresh_at.ensures c.before.index_of.ensures (omega arith)
+returns c = one_past _ _ _ c.before.before.before.fresh_at.ensures c.before.index_of.ensures (omega arith)
 
 links-at-requires : tie.Need-links-at-requires
 links-at-requires c κs = search rules
@@ -68,11 +68,11 @@ returns-2 c =
     let headed = c.before in
     let linked = headed.before in
     let target = linked.before.before in
-    one-linked _ _ _ target.before.before.fresh_at.ensures target.index_of.ensures
+    one_linked _ _ _ target.before.before.fresh_at.ensures target.index_of.ensures
     linked.links-at.ensures headed.heads-at.ensures (omega arith)
 
-pub link-entry-spec : {M : Type 1} → statement M
-link-entry-spec =
+pub link_entry_spec : {M : Type 1} → statement M
+link_entry_spec =
     tie.close
     (tie.spec
     fresh-at-requires

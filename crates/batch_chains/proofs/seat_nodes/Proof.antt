@@ -4,7 +4,7 @@ use Prim.Native.Nat.{◌<◌}
 use native.Mathlib.Omega.{arith}
 use lib.ListN.{length}
 use borrow.Author.Rules.{rules}
-use Rattle.batch_chains.proofs.Chaining.{Seating, seating-start, seating-on, seating-end, seat-fits, seat-node}
+use Rattle.batch_chains.proofs.Chaining.{Seating, seating_start, seating_on, seating_end, seat_fits, seat_node}
 use Rattle.batch_chains.proofs.seat_nodes.Statement.{statement}
 use Rattle.batch_chains.proofs.seat_nodes.Tie as tie
 
@@ -15,7 +15,7 @@ abbrev decreases-loop : tie.decreases-loop
 decreases-loop nodes slots₀ p₀ slots p = p
 
 loop-holds : tie.Need-loop-init invariant-loop decreases-loop
-loop-holds c = seating-start refl c.before.before.requires.1.1
+loop-holds c = seating_start refl c.before.before.requires.1.1
 
 sub-q : tie.Need-overflow-sub-q invariant-loop decreases-loop
 sub-q c = search rules
@@ -34,7 +34,7 @@ cast-slots c = omega arith
 
 -- the node that is read has a slot
 slot : (c : (tie.After-index-of invariant-loop decreases-loop)) → c.index_of.result < length c.before.before.before.loop.slots
-slot c = seat-fits c.before.before.before.before.before.before.requires.1.0 c.before.before.before.loop.invariant (omega arith) c.index_of.ensures
+slot c = seat_fits c.before.before.before.before.before.before.requires.1.0 c.before.before.before.loop.invariant (omega arith) c.index_of.ensures
 
 mul-slots : tie.Need-overflow-mul-slots invariant-loop decreases-loop
 mul-slots c = omega (arith, slot c)
@@ -49,16 +49,16 @@ loop-again : tie.Need-loop-preserved invariant-loop decreases-loop
 loop-again c =
     let s = c.before.before.before.loop.invariant in
     let is = c.index_of.ensures in
-    seating-on _ s (omega arith) is (seat-node c.before.before.before.before.before.before.requires.1.0 s (omega arith) is)
+    seating_on _ s (omega arith) is (seat_node c.before.before.before.before.before.before.requires.1.0 s (omega arith) is)
 
 same_length : tie.Need-same-length invariant-loop decreases-loop
 same_length c = search rules
 
 returns : tie.Need-returns invariant-loop decreases-loop
-returns c = seating-end c.before.loop.invariant (λ h. omega arith)
+returns c = seating_end c.before.loop.invariant (λ h. omega arith)
 
-pub seat-nodes-spec : {M : Type 1} → statement M
-seat-nodes-spec =
+pub seat_nodes_spec : {M : Type 1} → statement M
+seat_nodes_spec =
     tie.close
     (tie.spec
     invariant-loop

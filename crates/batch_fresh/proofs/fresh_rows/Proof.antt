@@ -9,7 +9,7 @@ use Rattle.scratch.specs.Lent.{lent}
 use Rattle.given.specs.Given.{given}
 use Rattle.given.specs.Listing.{listing}
 use Rattle.batch_fresh.specs.Made.{Between, RowsMade}
-use Rattle.batch_fresh.proofs.Listing.{rows_none, rows_more, rows_all, insertable, epoch-room, epoch-more, epoch-all}
+use Rattle.batch_fresh.proofs.Listing.{rows_none, rows_more, rows_all, insertable, epoch_room, epoch_more, epoch_all}
 use Rattle.batch_fresh.proofs.fresh_rows.Statement.{statement}
 use Rattle.laws.specs.Tables.{row_fits}
 use Rattle.batch_fresh.proofs.fresh_rows.Tie as tie
@@ -72,8 +72,8 @@ fresh-row-requires c κs =
     let node = insertable turn.loop.p s.pre.1.1.0 c.before.before.before.before.loop-test.true in
     let inv = turn.loop.invariant in
     let more = c.before.before.before.before.loop-test.true in
-    let room = epoch-room s.pre.1.1.0 s.args.wide.now s.args.epoch turn.loop.p inv.1 more s.pre.1.1.1.1.1 in
-    (s.pre.0, (s.pre.1.0, (inv.2, (omega (arith, s.pre.1.1.1.1.0, inv.3.floats-kept.size), (node, room)))))
+    let room = epoch_room s.pre.1.1.0 s.args.wide.now s.args.epoch turn.loop.p inv.1 more s.pre.1.1.1.1.1 in
+    (s.pre.0, (s.pre.1.0, (inv.2, (omega (arith, s.pre.1.1.1.1.0, inv.3.floats_kept.size), (node, room)))))
 
 add-p : tie.Need-overflow-add-p invariant-loop decreases-loop
 add-p c =
@@ -87,17 +87,17 @@ loop-again : tie.Need-loop-preserved invariant-loop decreases-loop
 loop-again c =
     let test = c.before.before.before.before.before.before.before.before.before in
     let turn = test.before in
-    let made = c.before.before.before.before.fresh-row in
+    let made = c.before.before.before.before.fresh_row_lem in
     let more : turn.loop.p < length (called turn).args.nodes.now = test.loop-test.true in
     let s = called turn in
-    let risen = epoch-more s.pre.1.1.0 s.args.wide.now s.args.epoch turn.loop.p turn.loop.invariant.1 more made.ensures.1.1 in
+    let risen = epoch_more s.pre.1.1.0 s.args.wide.now s.args.epoch turn.loop.p turn.loop.invariant.1 more made.ensures.1.1 in
     (omega arith, risen, made.ensures.1.0, rows_more turn.loop.invariant.3 made.ensures.0)
 
 same_length : tie.Need-same-length invariant-loop decreases-loop
-same_length c = c.before.loop.invariant.3.words-kept.size
+same_length c = c.before.loop.invariant.3.words_kept.size
 
 same-length-2 : tie.Need-same-length-2 invariant-loop decreases-loop
-same-length-2 c = c.before.loop.invariant.3.floats-kept.size
+same-length-2 c = c.before.loop.invariant.3.floats_kept.size
 
 returns : tie.Need-returns invariant-loop decreases-loop
 returns c =
@@ -106,11 +106,11 @@ returns c =
     let all : turn.loop.p ≡ length s.args.nodes.now = omega (arith, turn.loop.invariant.0) in
     let inv = turn.loop.invariant in (
       rows_all inv.3 s.pre.0.limits.nodes all,
-      (inv.2.room.marks, epoch-all s.pre.1.1.0 s.args.wide.now s.args.epoch turn.loop.p inv.1 all),
+      (inv.2.room.marks, epoch_all s.pre.1.1.0 s.args.wide.now s.args.epoch turn.loop.p inv.1 all),
     )
 
-pub fresh-rows-spec : {M : Type 1} → statement M
-fresh-rows-spec =
+pub fresh_rows_spec : {M : Type 1} → statement M
+fresh_rows_spec =
     tie.close
     (tie.spec
     invariant-loop

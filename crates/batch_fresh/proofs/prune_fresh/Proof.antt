@@ -1,6 +1,6 @@
 -- `prune_fresh` meets its contract: the pool and the factors are lent to pruning, then the row's place to its writer.
 use borrow.Author.Rules.{rules}
-use Rattle.batch_fresh.proofs.Pruning.{lent-measurable, lent-apart, lent-factors, fresh}
+use Rattle.batch_fresh.proofs.Pruning.{lent_measurable, lent_apart, lent_factors, fresh}
 use Rattle.batch_fresh.proofs.prune_fresh.Statement.{statement}
 use Rattle.batch_fresh.proofs.prune_fresh.Tie as tie
 
@@ -62,7 +62,7 @@ prune-neighbors-requires c κs =
     let asks = (called found).requires in
     let pool-is = found.before.pool-at.ensures in
     let dists-is = found.pool-dists-at.ensures in
-    (lent-measurable asks pool-is dists-is, (lent-apart asks pool-is dists-is, (lent-factors asks pool-is dists-is, asks.degree-few)))
+    (lent_measurable asks pool-is dists-is, (lent_apart asks pool-is dists-is, (lent_factors asks pool-is dists-is, asks.degree_few)))
 
 fresh-row-at-requires : tie.Need-fresh-row-at-requires
 fresh-row-at-requires c κs = search rules
@@ -107,8 +107,8 @@ returns c =
     w.ensures words-now factors placed.fresh-row-at.ensures w.auto.1.1.1.1.1.1.0 put.put-row.auto.0 w.auto.1.1.1.1.1.0
     put.put-row.ensures
 
-pub prune-fresh-spec : {M : Type 1} → statement M
-prune-fresh-spec =
+pub prune_fresh_spec : {M : Type 1} → statement M
+prune_fresh_spec =
     tie.close
     (tie.spec
     pool-at-requires

@@ -1,6 +1,6 @@
 -- `is_affected` meets its contract: a node is affected if it has a seat, or heads a chain.
 use borrow.Author.Rules.{rules}
-use Rattle.batch_merge.proofs.Chains.{by-seat, by-head}
+use Rattle.batch_merge.proofs.Chains.{by_seat, by_head}
 use Rattle.batch_merge.proofs.is_affected.Statement.{statement}
 use Rattle.batch_merge.proofs.is_affected.Tie as tie
 
@@ -20,7 +20,7 @@ returns : tie.Need-returns
 returns c =
     let seats = c.before.before in
     let s = seats.before.before.before in
-    by-seat s.requires.1 s.requires.0 seats.seats-at.ensures c.if1.true
+    by_seat s.requires.1 s.requires.0 seats.seats-at.ensures c.if1.true
 
 heads-at-requires : tie.Need-heads-at-requires
 heads-at-requires c κs = search rules
@@ -40,10 +40,10 @@ returns-2 c =
     let tested = heads.before in
     let seats = tested.before.before in
     let s = seats.before.before.before in
-    by-head s.requires.1 s.requires.0 seats.seats-at.ensures heads.heads-at.ensures tested.if1.false
+    by_head s.requires.1 s.requires.0 seats.seats-at.ensures heads.heads-at.ensures tested.if1.false
 
-pub is-affected-spec : {M : Type 1} → statement M
-is-affected-spec =
+pub is_affected_spec : {M : Type 1} → statement M
+is_affected_spec =
     tie.close
     (tie.spec
     seats-at-requires

@@ -1,6 +1,6 @@
 -- `link` meets its contract: heads and seats cleared, chains and seats made.
 use borrow.Author.Rules.{rules}
-use Rattle.batch_merge.proofs.Chains.{link-asks, seat-asks, all-linked}
+use Rattle.batch_merge.proofs.Chains.{link_asks, seat_asks, all_linked}
 use Rattle.batch_merge.proofs.link.Statement.{statement}
 use Rattle.batch_merge.proofs.link.Tie as tie
 
@@ -40,7 +40,7 @@ link-entries-requires c κs =
     let cleared = c.before.before.before in
     let links = cleared.before.before in
     let seats = links.before in
-    link-asks (called cleared).requires seats.before.heads-at.ensures seats.seats-at.ensures links.links-at.ensures _ cleared.clear-words.ensures
+    link_asks (called cleared).requires seats.before.heads-at.ensures seats.seats-at.ensures links.links-at.ensures _ cleared.clear-words.ensures
 
 mul-seat-nodes : tie.Need-overflow-mul-seat-nodes
 mul-seat-nodes c = search rules
@@ -60,7 +60,7 @@ seat-nodes-requires c κs =
     let cleared = c.before.before.before.before.before.before.before in
     let links = cleared.before.before in
     let seats = links.before in
-    seat-asks (called cleared).requires seats.before.heads-at.ensures seats.seats-at.ensures links.links-at.ensures _ cleared.clear-words.ensures
+    seat_asks (called cleared).requires seats.before.heads-at.ensures seats.seats-at.ensures links.links-at.ensures _ cleared.clear-words.ensures
     _ linked.auto.0 linked.ensures
 
 same_length : tie.Need-same-length
@@ -74,11 +74,11 @@ returns c =
     let linked = chains.link-entries in
     let links = cleared.before.before in
     let seats = links.before in
-    all-linked (called cleared).requires seats.before.heads-at.ensures seats.seats-at.ensures links.links-at.ensures _ cleared.clear-words.ensures
+    all_linked (called cleared).requires seats.before.heads-at.ensures seats.seats-at.ensures links.links-at.ensures _ cleared.clear-words.ensures
     _ linked.auto.0 linked.ensures _ seated.auto.1.0 seated.ensures
 
-pub link-spec : {M : Type 1} → statement M
-link-spec =
+pub link_spec : {M : Type 1} → statement M
+link_spec =
     tie.close
     (tie.spec
     heads-at-requires

@@ -1,6 +1,6 @@
 -- `merge` meets its contract: the chains first, then the rows.
 use borrow.Author.Rules.{rules}
-use Rattle.batch_merge.proofs.Merging.{rows-asks, all_done}
+use Rattle.batch_merge.proofs.Merging.{rows_asks, all_done}
 use Rattle.batch_merge.proofs.merge.Statement.{statement}
 use Rattle.batch_merge.proofs.merge.Tie as tie
 
@@ -23,7 +23,7 @@ part-merge-rows-end c = search rules
 merge-rows-requires : tie.Need-merge-rows-requires
 merge-rows-requires c κs =
     let linked = c.before.before.before.before.before in
-    rows-asks (called linked).requires linked.link.ensures
+    rows_asks (called linked).requires linked.link.ensures
 
 same_length : tie.Need-same-length
 same_length c = search rules
@@ -41,8 +41,8 @@ returns c =
     let linked = rows.before.before.before.before.before.before in
     all_done (called linked).requires linked.link.ensures merged.new.1.1.1.1.1.0 merged.ensures merged.auto.1.1.1.1.1.0
 
-pub merge-spec : {M : Type 1} → statement M
-merge-spec =
+pub merge_spec : {M : Type 1} → statement M
+merge_spec =
     tie.close
     (tie.spec
     link-requires

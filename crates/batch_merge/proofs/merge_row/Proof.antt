@@ -2,8 +2,8 @@
 use borrow.Author.Rules.{rules}
 use Prim.Native.Nat.{ℕ}
 use lib.ListN.{replicate, length-replicate}
-use Rattle.batch_affected.specs.Says.{mergedMost}
-use Rattle.batch_merge.proofs.OneRow.{gather-asks, fit-asks, row-merged}
+use Rattle.batch_affected.specs.Says.{merged_most}
+use Rattle.batch_merge.proofs.OneRow.{gather_asks, fit_asks, row_merged}
 use Rattle.batch_merge.proofs.merge_row.Statement.{statement}
 use Rattle.batch_merge.proofs.merge_row.Tie as tie
 
@@ -21,7 +21,7 @@ gather-node-requires : tie.Need-gather-node-requires
 gather-node-requires c κs =
     let worded = c.before.before in
     let s = called worded in
-    gather-asks s.pre.0 worded.word_of.ensures
+    gather_asks s.pre.0 worded.word_of.ensures
 
 sub-fit-row : tie.Need-overflow-sub-fit-row
 sub-fit-row c = search rules
@@ -46,8 +46,8 @@ fit-row-requires c κs =
     let worded = c.before.before.before.before.before.before.before.before.before in
     let s = called worded in
     let list = c.before.before.before.before.before.before.gather-node in
-    fit-asks s.pre.0 worded.word_of.ensures list.ensures
-    (replicate mergedMost 0) _ list.auto.1.1.1.1.1.1.0 (length-replicate {A = ℕ} mergedMost 0) s.pre.1
+    fit_asks s.pre.0 worded.word_of.ensures list.ensures
+    (replicate merged_most 0) _ list.auto.1.1.1.1.1.1.0 (length-replicate {A = ℕ} merged_most 0) s.pre.1
 
 same_length : tie.Need-same-length
 same_length c = search rules
@@ -60,10 +60,10 @@ returns c =
     let gathered = c.before.before.before.before.before.before.before.before.before.before.before.before in
     let worded = gathered.before.before.before in
     let s = called worded in
-    row-merged s.pre.0 worded.word_of.ensures gathered.gather-node.ensures c.before.before.before.before.before.Fit-row.ensures
+    row_merged s.pre.0 worded.word_of.ensures gathered.gather-node.ensures c.before.before.before.before.before.Fit-row.ensures
 
-pub merge-row-spec : {M : Type 1} → statement M
-merge-row-spec =
+pub merge_row_spec : {M : Type 1} → statement M
+merge_row_spec =
     tie.close
     (tie.spec
     word-of-requires

@@ -7,7 +7,7 @@ use lib.ListN.{length}
 use borrow.Author.Rules.{rules}
 use Rattle.given.specs.Given.{given}
 use Rattle.given.specs.Fresh.{merging}
-use Rattle.batch_merge.proofs.Turns.{Turned, turn-start, turn-asks, turn-merged, turn-same, all-merged}
+use Rattle.batch_merge.proofs.Turns.{Turned, turn_start, turn_asks, turn_merged, turn_same, all_merged}
 use Rattle.batch_merge.proofs.merge_rows.Statement.{statement}
 use Rattle.batch_merge.proofs.merge_rows.Tie as tie
 
@@ -23,7 +23,7 @@ abbrev called : (tie.At-loop invariant-loop decreases-loop) → (tie.Start invar
 called c = c.before.before.before.before.before.before
 
 loop-holds : tie.Need-loop-init invariant-loop decreases-loop
-loop-holds c = (turn-start c.before.before.before.before.before.requires.1.1.1.size, refl)
+loop-holds c = (turn_start c.before.before.before.before.before.requires.1.1.1.size, refl)
 
 is-affected-requires : tie.Need-is-affected-requires invariant-loop decreases-loop
 is-affected-requires c κs = (omega arith, (called c.before).pre.1.1.0)
@@ -32,7 +32,7 @@ merge-row-requires : tie.Need-merge-row-requires invariant-loop decreases-loop
 merge-row-requires c κs =
     let turn = c.before.before.before.before.before in
     let s = called turn in
-    (turn-asks s.pre.1.0 turn.loop.invariant.0 (omega arith) s.pre.1.1.0 s.pre.1.1.1.words, omega arith)
+    (turn_asks s.pre.1.0 turn.loop.invariant.0 (omega arith) s.pre.1.1.0 s.pre.1.1.1.words, omega arith)
 
 add-i : tie.Need-overflow-add-i invariant-loop decreases-loop
 add-i c = search rules
@@ -50,11 +50,11 @@ loop-again c =
     (λ w.
     let merged = w.3 in
     let kept = merged.kept.1.1.1.1 in (
-      turn-merged limits turn.loop.invariant.0 (omega (arith, further)) w.8 (sym w.0.taken ∙ says) kept.0 merged.ensures,
+      turn_merged limits turn.loop.invariant.0 (omega (arith, further)) w.8 (sym w.0.taken ∙ says) kept.0 merged.ensures,
       ap length w.9 ∙ kept.1.1.0 ∙ turn.loop.invariant.1,
     ))
     (λ w.
-    (turn-same limits turn.loop.invariant.0 (omega (arith, further)) w.1 (sym w.0.left ∙ says), ap length w.2 ∙ turn.loop.invariant.1))
+    (turn_same limits turn.loop.invariant.0 (omega (arith, further)) w.1 (sym w.0.left ∙ says), ap length w.2 ∙ turn.loop.invariant.1))
     c.if1.branch
 
 same_length : tie.Need-same-length invariant-loop decreases-loop
@@ -64,10 +64,10 @@ same-length-2 : tie.Need-same-length-2 invariant-loop decreases-loop
 same-length-2 c = search rules
 
 returns : tie.Need-returns invariant-loop decreases-loop
-returns c = all-merged c.before.loop.invariant.0 (omega arith)
+returns c = all_merged c.before.loop.invariant.0 (omega arith)
 
-pub merge-rows-spec : {M : Type 1} → statement M
-merge-rows-spec =
+pub merge_rows_spec : {M : Type 1} → statement M
+merge_rows_spec =
     tie.close
     (tie.spec
     invariant-loop

@@ -2,14 +2,14 @@
 use Prim.Native.Nat.{◌<◌}
 use native.Mathlib.Omega.{arith}
 use lib.ListN.{length-set}
-use Rattle.batch_pool.proofs.Adding.{pooled-room, added-seen, added_new}
+use Rattle.batch_pool.proofs.Adding.{pooled_room, added_seen, added_new}
 use borrow.Author.Rules.{rules}
 use Rattle.batch_pool.proofs.add_once.Statement.{statement}
 use Rattle.batch_pool.proofs.add_once.Tie as tie
 
 -- an id that is not in the pool finds room
 free : (c : tie.Else1) → c.before.before.args.len < c.before.before.args.n
-free c = let s = c.before.before in pooled-room s.requires.0 s.args.id s.args.dist s.requires.1.1 c.if1.false
+free c = let s = c.before.before in pooled_room s.requires.0 s.args.id s.args.dist s.requires.1.1 c.if1.false
 
 add-mark : tie.Need-overflow-add-mark
 add-mark c = search rules
@@ -21,7 +21,7 @@ slice-read-if1 : tie.Need-slice-read-if1
 slice-read-if1 c = search rules
 
 returns : tie.Need-returns
-returns c = let s = c.before.before in added-seen s.requires.0 s.args.id s.args.dist s.requires.1.1 c.if1.true
+returns c = let s = c.before.before in added_seen s.requires.0 s.args.id s.args.dist s.requires.1.1 c.if1.true
 
 mul_at : tie.Need-overflow-mul-at
 mul_at c = search rules
@@ -56,8 +56,8 @@ same_length c = search rules
 returns-2 : tie.Need-returns-2
 returns-2 c = let s = c.before.before in added_new s.requires.0 s.args.id s.args.dist s.requires.1.1 c.if1.false
 
-pub add-once-spec : {M : Type 1} → statement M
-add-once-spec =
+pub add_once_spec : {M : Type 1} → statement M
+add_once_spec =
     tie.close
     (tie.spec
     add-mark

@@ -3,7 +3,7 @@ use mathlib.Core.Path.{◌≡◌, sym, subst}
 use Prim.Native.Nat.{ℕ, ◌-◌, ◌≤◌, ◌<◌}
 use native.Mathlib.Omega.{arith}
 use Rattle.batch_pool.specs.Regions.{stage, Filled}
-use Rattle.batch_pool.proofs.Lending.{filled_none, id-kept, filled_more}
+use Rattle.batch_pool.proofs.Lending.{filled_none, id_kept, filled_more}
 use borrow.Author.Rules.{rules}
 use Rattle.batch_pool.proofs.add_visited.Statement.{statement}
 use Rattle.batch_pool.proofs.add_visited.Tie as tie
@@ -71,7 +71,7 @@ add-once-requires c κs =
     let low = s.requires.1.1 l.loop.k (omega arith) in
     simp (o.before.before.before.visited-at.ensures, o.before.pool-at.ensures, o.pool-end.ensures) (
       f.added.pooled,
-      (q.0, subst (λ (i : ℕ). i < s.args.n) (sym (id-kept _ _ _ l.loop.k f h q.1)) low),
+      (q.0, subst (λ (i : ℕ). i < s.args.n) (sym (id_kept _ _ _ l.loop.k f h q.1)) low),
     )
 
 add-k : tie.Need-overflow-add-k invariant-loop decreases-loop
@@ -107,8 +107,8 @@ returns c =
     let e : l.loop.k ≡ s.args.visited = omega arith in
     subst (Filled _ _ _) e l.loop.invariant.1
 
-pub add-visited-spec : {M : Type 1} → statement M
-add-visited-spec =
+pub add_visited_spec : {M : Type 1} → statement M
+add_visited_spec =
     tie.close
     (tie.spec
     invariant-loop

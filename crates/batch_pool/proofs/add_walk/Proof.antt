@@ -1,6 +1,6 @@
 -- `add_walk`. The walk leaves the pool alone, and the words hold what it visited.
 use mathlib.Core.Path.{refl}
-use Rattle.batch_pool.proofs.Growing.{walked, grown-walk}
+use Rattle.batch_pool.proofs.Growing.{walked, grown_walk}
 use borrow.Author.Rules.{rules}
 use Rattle.batch_pool.proofs.add_walk.Statement.{statement}
 use Rattle.batch_pool.proofs.add_walk.Tie as tie
@@ -28,9 +28,9 @@ returns c =
     let a = c.before.before in
     let g = a.before.before.before.before.before in
     let s = g.before.before.before.before.before.before.before in
-    (grown-walk s.requires.0 _ _ s.requires.1.1 s.requires.1.0.1 g.greedy.ensures a.add-visited.ensures, g.greedy.ensures.epoch-is)
+    (grown_walk s.requires.0 _ _ s.requires.1.1 s.requires.1.0.1 g.greedy.ensures a.add-visited.ensures, g.greedy.ensures.epoch_is)
 
-pub add-walk-spec : {M : Type 1} → statement M
-add-walk-spec =
+pub add_walk_spec : {M : Type 1} → statement M
+add_walk_spec =
     tie.close
     (tie.spec slice-aggregate-greedy greedy-requires add-visited-requires same_length returns)

@@ -4,15 +4,15 @@ use mathlib.Core.Path.{◌≡◌}
 use Prim.Native.Nat.{◌+◌, ◌*◌, ◌≤◌, ◌<◌}
 use native.Mathlib.Omega.{arith}
 use lib.ListN.{length}
-use Rattle.definition.specs.Metric.{fromQuery}
+use Rattle.definition.specs.Metric.{from_query}
 use Rattle.definition.specs.Tables.{ids}
 use Rattle.laws.specs.Parts.{part}
-use Rattle.laws.specs.Words.{searchable-part}
-use Rattle.theory.specs.build.Walks.{nodeWalks, node-walks, epochEnd}
+use Rattle.laws.specs.Words.{searchable_part}
+use Rattle.theory.specs.build.Walks.{node_walks, node_walks_lem, epoch_end}
 use Rattle.greedy.specs.Scratch.{row_in}
 use Rattle.batch_pool.specs.Regions.{stage, Grown}
 use Rattle.batch_pool.proofs.Lending.{returned}
-use Rattle.batch_pool.proofs.Growing.{grown-row, grown-pool}
+use Rattle.batch_pool.proofs.Growing.{grown_row, grown_pool}
 use borrow.Author.Rules.{rules}
 use Rattle.batch_pool.proofs.collect_pool.Statement.{statement}
 use Rattle.batch_pool.proofs.collect_pool.Tie as tie
@@ -28,21 +28,21 @@ fits c = let s = called c in row_in s.pre.0.ground s.pre.1.0.1.room.space.nodes 
 
 -- its walks are one and those from the seeds
 walks : (s : tie.Start)
-    → let a = s.args in length (nodeWalks a.wide.now a.start a.node a.seeds.now) ≡ 1 + length a.seeds.now
-walks s = let a = s.args in node-walks a.wide.now a.start a.node a.seeds.now
+    → let a = s.args in length (node_walks a.wide.now a.start a.node a.seeds.now) ≡ 1 + length a.seeds.now
+walks s = let a = s.args in node_walks_lem a.wide.now a.start a.node a.seeds.now
 
 -- the row was added
 row-grown : (c : tie.After-add-row)
     → let a = (called c.before.before.before).args in
     let s₀ = stage a.words.now a.stamp 0 in
     Grown a.p a.epoch s₀ (returned a.p.n s₀ c.add_row.new.0 c.add_row.result)
-    (ids (part (a.node * a.p.width) (a.node * a.p.width + a.p.width) a.wide.now)) (fromQuery a.p.dim a.vectors.now a.query.now)
+    (ids (part (a.node * a.p.width) (a.node * a.p.width + a.p.width) a.wide.now)) (from_query a.p.dim a.vectors.now a.query.now)
 row-grown c =
     let o = c.before.before.before in
     let r = c.add_row in
     let pa = o.before.pool-at.ensures in
     let pe = o.pool-end.ensures in
-    grown-row _ _ _ _ (called o).requires.1.0.1 _ (rw (pa, pe) at r.auto.0) _ _ (rw (pa, pe) at r.ensures)
+    grown_row _ _ _ _ (called o).requires.1.0.1 _ (rw (pa, pe) at r.auto.0) _ _ (rw (pa, pe) at r.ensures)
 
 pool-at-requires : tie.Need-pool-at-requires
 pool-at-requires c κs = search rules
@@ -90,7 +90,7 @@ add-row-requires c κs =
       h.pooled,
       (
         h.room.space.nodes,
-        (s.pre.0.ground.measures, searchable-part _ s.args.wide.now from (from + s.args.p.width) s.pre.0.rows),
+        (s.pre.0.ground.measures, searchable_part _ s.args.wide.now from (from + s.args.p.width) s.pre.0.rows),
       ),
     )
 
@@ -105,7 +105,7 @@ add-walks-requires : tie.Need-add-walks-requires
 add-walks-requires c κs =
     let a = c.before.before.before in
     let s = called a.before.before.before.before.before.before.before in
-    let room : a.add-walk.result.epoch + length s.args.seeds.now < epochEnd = omega (arith, walks s, s.pre.1.0.0, a.add-walk.ensures.1) in
+    let room : a.add-walk.result.epoch + length s.args.seeds.now < epoch_end = omega (arith, walks s, s.pre.1.0.0, a.add-walk.ensures.1) in
     (s.pre.0, ((room, a.add-walk.ensures.0.holding), s.pre.1.1.2))
 
 returns : tie.Need-returns
@@ -115,15 +115,15 @@ returns c =
     let r = a.before.before.before.before in
     let o = r.before.before.before in
     let walk = rw (o.before.pool-at.ensures, o.pool-end.ensures) at a.add-walk.ensures.0 in (
-      grown-pool _ _ _ _ _ _ _ _ _ _ _ _ _ (row-grown r) walk z.add-walks.ensures.0,
+      grown_pool _ _ _ _ _ _ _ _ _ _ _ _ _ (row-grown r) walk z.add-walks.ensures.0,
       omega (arith, walks (called o), a.add-walk.ensures.1, z.add-walks.ensures.1),
     )
 
 same_length : tie.Need-same-length
 same_length c = (returns c).0.kept.size
 
-pub collect-pool-spec : {M : Type 1} → statement M
-collect-pool-spec =
+pub collect_pool_spec : {M : Type 1} → statement M
+collect_pool_spec =
     tie.close
     (tie.spec
     pool-at-requires

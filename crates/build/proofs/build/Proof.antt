@@ -2,8 +2,8 @@
 use mathlib.Core.Path.{◌≡◌, refl, sym, ◌∙◌}
 use native.Mathlib.Omega.{arith}
 use borrow.Author.Rules.{rules}
-use Rattle.definition.specs.Refusals.{BuildCall, buildNumber}
-use Rattle.build.specs.Built.{build-degree, build-opens, build_runs, floats-left, build-closes, build-room, build-done, build-refused}
+use Rattle.definition.specs.Refusals.{BuildCall, build_number}
+use Rattle.build.specs.Built.{build_degree, build_opens, build_runs, floats_left, build_closes, build_room, build_done_lem, build_refused}
 use Rattle.build.proofs.build.Statement.{statement}
 use Rattle.build.proofs.build.Tie as tie
 
@@ -30,16 +30,16 @@ call s =
 abbrev called : tie.After-build-number → tie.Start
 called c = c.before.before.before.before.before.before.before.before.before
 
-numbered : (c : tie.After-build-number) → c.build-number.result ≡ buildNumber (call (called c))
+numbered : (c : tie.After-build-number) → c.build_number_lem.result ≡ build_number (call (called c))
 numbered c =
     let a = (called c).args in
-    c.build-number.ensures.is a.wide.now a.closed.now a.words.now a.floats.now refl refl refl refl
+    c.build_number_lem.ensures.is a.wide.now a.closed.now a.words.now a.floats.now refl refl refl refl
 
 -- from the slack on: the call, which is accepted
 abbrev asked : tie.After-slack → BuildCall
 asked c = call (called c.before.before)
 
-accepted : (c : tie.After-slack) → buildNumber (asked c) ≡ 0
+accepted : (c : tie.After-slack) → build_number (asked c) ≡ 0
 accepted c = sym (numbered c.before.before) ∙ c.before.if1.false
 
 build-number-requires : tie.Need-build-number-requires
@@ -49,15 +49,15 @@ refused-requires : tie.Need-refused-requires
 refused-requires c κs = search rules
 
 returns : tie.Need-returns
-returns c = build-refused (numbered c.before.before) c.before.if1.true c.refused.ensures
+returns c = build_refused (numbered c.before.before) c.before.if1.true c.refused.ensures
 
 slack-requires : tie.Need-slack-requires
-slack-requires c κs = build-degree (call (called c.before)) (sym (numbered c.before) ∙ c.if1.false)
+slack-requires c κs = build_degree (call (called c.before)) (sym (numbered c.before) ∙ c.if1.false)
 
 open-rows-requires : tie.Need-open-rows-requires
 open-rows-requires c κs =
     let wide = c.before in
-    build-opens (asked wide) (accepted wide) wide.slack.ensures
+    build_opens (asked wide) (accepted wide) wide.slack.ensures
 
 run-batches-requires : tie.Need-run-batches-requires
 run-batches-requires c κs =
@@ -76,14 +76,14 @@ part-close-rows-end c =
     let ran = c.before.before.before.before.before.before.before.before in
     let opened = ran.before.before.before.before.before.before in
     let wide = opened.before.before in
-    omega (arith, floats-left (asked wide) (accepted wide) wide.slack.ensures opened.open-rows.ensures ran.run-batches.ensures)
+    omega (arith, floats_left (asked wide) (accepted wide) wide.slack.ensures opened.open-rows.ensures ran.run-batches.ensures)
 
 close-rows-requires : tie.Need-close-rows-requires
 close-rows-requires c κs =
     let ran = c.before.before.before.before.before.before.before.before.before in
     let opened = ran.before.before.before.before.before.before in
     let wide = opened.before.before in
-    build-closes (asked wide) (accepted wide) wide.slack.ensures opened.open-rows.ensures ran.run-batches.ensures
+    build_closes (asked wide) (accepted wide) wide.slack.ensures opened.open-rows.ensures ran.run-batches.ensures
 
 clear-room-requires : tie.Need-clear-room-requires
 clear-room-requires c κs =
@@ -92,7 +92,7 @@ clear-room-requires c κs =
     let opened = ran.before.before.before.before.before.before in
     let wide = opened.before.before in
     let rows = closing.close-rows in
-    build-room (asked wide) (accepted wide) wide.slack.ensures opened.open-rows.ensures ran.run-batches.ensures
+    build_room (asked wide) (accepted wide) wide.slack.ensures opened.open-rows.ensures ran.run-batches.ensures
     rows.new.1.1.1.1.0 rows.auto.1.1.1.1.0
 
 done-requires : tie.Need-done-requires
@@ -118,11 +118,11 @@ returns-2 c =
     let opened = ran.before.before.before.before.before.before in
     let wide = opened.before.before in
     let rows = closing.close-rows in
-    build-done (asked wide) (accepted wide) wide.slack.ensures opened.open-rows.ensures ran.run-batches.ensures
+    build_done_lem (asked wide) (accepted wide) wide.slack.ensures opened.open-rows.ensures ran.run-batches.ensures
     rows.new.1.1.1.1.0 rows.auto.1.1.1.1.0 c.done.ensures rows.ensures cleared.clear-Room.ensures
 
-pub build-spec : {M : Type 1} → statement M
-build-spec =
+pub build_spec : {M : Type 1} → statement M
+build_spec =
     tie.close
     (tie.spec
     build-number-requires

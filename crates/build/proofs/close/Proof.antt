@@ -2,8 +2,8 @@
 use mathlib.Core.Path.{◌≡◌, refl, sym, ◌∙◌}
 use native.Mathlib.Omega.{arith}
 use borrow.Author.Rules.{rules}
-use Rattle.definition.specs.Refusals.{CloseCall, closeNumber}
-use Rattle.build.specs.Closed.{close-degree, close-room, close-ready, close-refused, close-done}
+use Rattle.definition.specs.Refusals.{CloseCall, close_number}
+use Rattle.build.specs.Closed.{close_degree, close_room, close_ready, close-refused, close_done_lem}
 use Rattle.build.proofs.close.Statement.{statement}
 use Rattle.build.proofs.close.Tie as tie
 
@@ -26,10 +26,10 @@ call s =
 abbrev called : tie.After-close-number → tie.Start
 called c = c.before.before.before.before.before.before
 
-numbered : (c : tie.After-close-number) → c.close-number.result ≡ closeNumber (call (called c))
-numbered c = let a = (called c).args in c.close-number.ensures.is a.closed.now a.words.now a.floats.now refl refl refl
+numbered : (c : tie.After-close-number) → c.close_number_lem.result ≡ close_number (call (called c))
+numbered c = let a = (called c).args in c.close_number_lem.ensures.is a.closed.now a.words.now a.floats.now refl refl refl
 
-accepted : (c : tie.Else1) → closeNumber (call (called c.before)) ≡ 0
+accepted : (c : tie.Else1) → close_number (call (called c.before)) ≡ 0
 accepted c = sym (numbered c.before) ∙ c.if1.false
 
 close-number-requires : tie.Need-close-number-requires
@@ -42,7 +42,7 @@ returns : tie.Need-returns
 returns c = close-refused (numbered c.before.before) c.before.if1.true c.refused.ensures
 
 slack-requires : tie.Need-slack-requires
-slack-requires c κs = close-degree (call (called c.before)) (accepted c)
+slack-requires c κs = close_degree (call (called c.before)) (accepted c)
 
 sub-close-rows : tie.Need-overflow-sub-close-rows
 sub-close-rows c = search rules
@@ -51,17 +51,17 @@ part-close-rows-start : tie.Need-slice-bounds-close-rows-start
 part-close-rows-start c = search rules
 
 part-close-rows-end : tie.Need-slice-bounds-close-rows-end
-part-close-rows-end c = omega (arith, (close-room (call (called c.before.before.before)) (accepted c.before.before)).2)
+part-close-rows-end c = omega (arith, (close_room (call (called c.before.before.before)) (accepted c.before.before)).2)
 
 close-rows-requires : tie.Need-close-rows-requires
 close-rows-requires c κs =
     let taken = c.before.before.before in
-    close-ready (call (called taken.before)) (accepted taken) c.before.before.slack.ensures
+    close_ready (call (called taken.before)) (accepted taken) c.before.before.slack.ensures
 
 clear-room-requires : tie.Need-clear-room-requires
 clear-room-requires c κs =
     let taken = c.before.before.before.before.before.before.before.before.before.before in
-    let r = close-room (call (called taken.before)) (accepted taken) in
+    let r = close_room (call (called taken.before)) (accepted taken) in
     (r.0, r.1, omega (arith, r.2))
 
 done-requires : tie.Need-done-requires
@@ -82,7 +82,7 @@ returns-2 c =
     let closing = cleared.before.before.before.before.before.before.before in
     let taken = closing.before.before.before.before in
     let rows = closing.close-rows in
-    close-done (call (called taken.before)) (accepted taken) rows.new.1.1.1.1.0 rows.auto.1.1.1.1.0
+    close_done_lem (call (called taken.before)) (accepted taken) rows.new.1.1.1.1.0 rows.auto.1.1.1.1.0
     c.done.ensures rows.ensures cleared.clear-Room.ensures
 
 pub close_spec : {M : Type 1} → statement M

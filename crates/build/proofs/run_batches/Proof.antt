@@ -7,8 +7,8 @@ use lib.ListN.{length}
 use Rattle.given.specs.Given.{given}
 use Rattle.given.specs.Listing.{listing}
 use Rattle.given.specs.Held.{held}
-use Rattle.build.specs.Runs.{RunsReady, Running, marks-fit, begun-ready, runs-start, runs_done, runs-end, end-most, end_later, seeds-fit, run-asks}
-use Rattle.build.specs.Runs.{runs-more}
+use Rattle.build.specs.Runs.{RunsReady, Running, marks_fit, begun_ready, runs_start, runs_done, runs_end, end_most, end_later, seeds_fit, run_asks}
+use Rattle.build.specs.Runs.{runs_more}
 use Rattle.build.proofs.run_batches.Statement.{statement}
 use Rattle.build.proofs.run_batches.Tie as tie
 
@@ -31,79 +31,79 @@ ready : (c : (tie.At-loop invariant-loop decreases-loop))
     → let a = (called c).args in
     RunsReady (given a.g a.vectors.now) (listing a.start a.order.now a.seeds.now)
     (held a.wide.now (begun c).first-epoch.new.0 a.floats.now)
-ready c = begun-ready (called c).requires (begun c).first-epoch.ensures
+ready c = begun_ready (called c).requires (begun c).first-epoch.ensures
 
 -- the run ends after it begins, within the order
-nodes-in : (c : (tie.After-run-end invariant-loop decreases-loop))
+nodes_in : (c : (tie.After-run-end invariant-loop decreases-loop))
     → let a = (called c.before.before).args in
     let end = c.run-end.result in
     (c.before.before.loop.at < end) × (end ≤ a.g.n) × (end ≤ length a.order.now)
-nodes-in c =
+nodes_in c =
     let turn = c.before.before in
     let s = called turn in
     let more = c.before.loop-test.true in
     let later = end_later (ready turn) turn.loop.invariant (omega (arith, more)) c.run-end.ensures in
-    let most = end-most (ready turn) turn.loop.invariant (omega (arith, more)) c.run-end.ensures in
+    let most = end_most (ready turn) turn.loop.invariant (omega (arith, more)) c.run-end.ensures in
     (later, most, omega (arith, s.pre.order_is))
 
 -- and so do its groups of seeds
-seeds-in : (c : (tie.After-run-end invariant-loop decreases-loop))
+seeds_in : (c : (tie.After-run-end invariant-loop decreases-loop))
     → let a = (called c.before.before).args in
     let end = c.run-end.result * a.g.params.extra in
     (c.before.before.loop.at * a.g.params.extra ≤ end) × (end ≤ length a.seeds.now)
-seeds-in c = let turn = c.before.before in seeds-fit (ready turn) turn.loop.invariant (omega (arith, c.before.loop-test.true)) c.run-end.ensures
+seeds_in c = let turn = c.before.before in seeds_fit (ready turn) turn.loop.invariant (omega (arith, c.before.loop-test.true)) c.run-end.ensures
 
 first-epoch-requires : tie.Need-first-epoch-requires invariant-loop decreases-loop
-first-epoch-requires c κs = marks-fit c.before.before.before.before.before.before.before.requires
+first-epoch-requires c κs = marks_fit c.before.before.before.before.before.before.before.requires
 
 loop-holds : tie.Need-loop-init invariant-loop decreases-loop
 loop-holds c =
     let first = c.before.before in
-    runs-start first.before.before.before.before.before.before.before.before.requires first.first-epoch.ensures
+    runs_start first.before.before.before.before.before.before.before.before.requires first.first-epoch.ensures
 
 run-end-requires : tie.Need-run-end-requires invariant-loop decreases-loop
 run-end-requires c κs = (c.before.loop.invariant.most, (called c.before).pre.limits.limits.nodes)
 
 mul-from : tie.Need-overflow-mul-from invariant-loop decreases-loop
-mul-from c = omega (arith, (seeds-in c).0, (seeds-in c).1)
+mul-from c = omega (arith, (seeds_in c).0, (seeds_in c).1)
 
 mul-to : tie.Need-overflow-mul-to invariant-loop decreases-loop
-mul-to c = omega (arith, (seeds-in c).0, (seeds-in c).1)
+mul-to c = omega (arith, (seeds_in c).0, (seeds_in c).1)
 
 mul-run-batch : tie.Need-overflow-mul-run-batch invariant-loop decreases-loop
-mul-run-batch c = omega (arith, (nodes-in c).0, (nodes-in c).2)
+mul-run-batch c = omega (arith, (nodes_in c).0, (nodes_in c).2)
 
 sub-run-batch : tie.Need-overflow-sub-run-batch invariant-loop decreases-loop
-sub-run-batch c = omega (arith, (nodes-in c).0, (nodes-in c).2)
+sub-run-batch c = omega (arith, (nodes_in c).0, (nodes_in c).2)
 
 part-run-batch-start : tie.Need-slice-bounds-run-batch-start invariant-loop decreases-loop
-part-run-batch-start c = omega (arith, (nodes-in c).0, (nodes-in c).2)
+part-run-batch-start c = omega (arith, (nodes_in c).0, (nodes_in c).2)
 
 part-run-batch-end : tie.Need-slice-bounds-run-batch-end invariant-loop decreases-loop
-part-run-batch-end c = omega (arith, (nodes-in c).0, (nodes-in c).2)
+part-run-batch-end c = omega (arith, (nodes_in c).0, (nodes_in c).2)
 
 mul-run-batch-2 : tie.Need-overflow-mul-run-batch-2 invariant-loop decreases-loop
-mul-run-batch-2 c = let f = seeds-in c.before in omega (arith, f.0, f.1)
+mul-run-batch-2 c = let f = seeds_in c.before in omega (arith, f.0, f.1)
 
 sub-run-batch-2 : tie.Need-overflow-sub-run-batch-2 invariant-loop decreases-loop
-sub-run-batch-2 c = let f = seeds-in c.before in omega (arith, f.0, f.1)
+sub-run-batch-2 c = let f = seeds_in c.before in omega (arith, f.0, f.1)
 
 part-run-batch-start-2 : tie.Need-slice-bounds-run-batch-start-2 invariant-loop decreases-loop
-part-run-batch-start-2 c = let f = seeds-in c.before in omega (arith, f.0, f.1)
+part-run-batch-start-2 c = let f = seeds_in c.before in omega (arith, f.0, f.1)
 
 part-run-batch-end-2 : tie.Need-slice-bounds-run-batch-end-2 invariant-loop decreases-loop
-part-run-batch-end-2 c = let f = seeds-in c.before in omega (arith, f.0, f.1)
+part-run-batch-end-2 c = let f = seeds_in c.before in omega (arith, f.0, f.1)
 
 run-batch-requires : tie.Need-run-batch-requires invariant-loop decreases-loop
 run-batch-requires c κs =
     let ended = c.before.before.before.before.before in
     let turn = ended.before.before in
-    run-asks (ready turn) turn.loop.invariant (omega (arith, ended.before.loop-test.true)) ended.run-end.ensures
+    run_asks (ready turn) turn.loop.invariant (omega (arith, ended.before.loop-test.true)) ended.run-end.ensures
 
 loop-less : tie.Need-loop-smaller invariant-loop decreases-loop
 loop-less c =
     let ended = c.before.before.before.before.before.before.before.before.before.before.before.before in
-    omega (arith, (nodes-in ended).0, (nodes-in ended).1)
+    omega (arith, (nodes_in ended).0, (nodes_in ended).1)
 
 loop-again : tie.Need-loop-preserved invariant-loop decreases-loop
 loop-again c =
@@ -111,7 +111,7 @@ loop-again c =
     let ended = ran.before.before.before.before.before.before in
     let turn = ended.before.before in
     let more = ended.before.loop-test.true in
-    runs-more (ready turn) turn.loop.invariant (omega (arith, more)) ended.run-end.ensures ran.run-batch.ensures
+    runs_more (ready turn) turn.loop.invariant (omega (arith, more)) ended.run-end.ensures ran.run-batch.ensures
 
 same_length : tie.Need-same-length invariant-loop decreases-loop
 same_length c = c.before.loop.invariant.kept.size ∙ sym (called c.before).pre.kept.size
@@ -125,10 +125,10 @@ same-length-3 c = c.before.loop.invariant.within.floats.size
 returns : tie.Need-returns invariant-loop decreases-loop
 returns c =
     let turn = c.before in
-    runs_done (called turn).requires (begun turn).first-epoch.ensures (runs-end (ready turn) turn.loop.invariant (omega arith))
+    runs_done (called turn).requires (begun turn).first-epoch.ensures (runs_end (ready turn) turn.loop.invariant (omega arith))
 
-pub run-batches-spec : {M : Type 1} → statement M
-run-batches-spec =
+pub run_batches_spec : {M : Type 1} → statement M
+run_batches_spec =
     tie.close
     (tie.spec
     invariant-loop

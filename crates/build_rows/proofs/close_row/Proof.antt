@@ -4,7 +4,7 @@ use native.Mathlib.Omega.{arith}
 use borrow.Author.Rules.{rules}
 use lib.ListN.{replicate, length-replicate}
 use Rattle.scratch.specs.Layout.{widest}
-use Rattle.build_rows.proofs.Closing.{lent-few, copied-few, row-asks, row-closed}
+use Rattle.build_rows.proofs.Closing.{lent_few, copied_few, row_asks, row_closed}
 use Rattle.build_rows.proofs.close_row.Statement.{statement}
 use Rattle.build_rows.proofs.close_row.Tie as tie
 
@@ -37,7 +37,7 @@ slice-aggregate-copy-ids : tie.Need-slice-aggregate-copy-ids
 slice-aggregate-copy-ids c = search rules
 
 copy-ids-requires : tie.Need-copy-ids-requires
-copy-ids-requires c κs = lent-few c.before.before.before.before.before.before.before.requires
+copy-ids-requires c κs = lent_few c.before.before.before.before.before.before.before.requires
 
 sub-fit-row : tie.Need-overflow-sub-fit-row
 sub-fit-row c = search rules
@@ -48,7 +48,7 @@ part-fit-row-start c = search rules
 part-fit-row-end : tie.Need-slice-bounds-fit-row-end
 part-fit-row-end c =
     let copied = c.before.before.before in
-    omega (arith, copied.copy-ids.auto.1.0, copied-few (called copied).requires copied.copy-ids.ensures)
+    omega (arith, copied.copy-ids.auto.1.0, copied_few (called copied).requires copied.copy-ids.ensures)
 
 sub-fit-row-2 : tie.Need-overflow-sub-fit-row-2
 sub-fit-row-2 c = search rules
@@ -59,13 +59,13 @@ part-dists-start c = search rules
 part-dists-end : tie.Need-slice-bounds-dists-end
 part-dists-end c =
     let copied = c.before.before.before.before in
-    omega (arith, copied-few (called copied).requires copied.copy-ids.ensures)
+    omega (arith, copied_few (called copied).requires copied.copy-ids.ensures)
 
 fit-row-requires : tie.Need-fit-row-requires
 fit-row-requires c κs =
     let copied = c.before.before.before.before.before.before in
     let list = copied.copy-ids in
-    row-asks (called copied).requires list.ensures copied.before.before.before.word_of.ensures (replicate widest 0) list.auto.1.0
+    row_asks (called copied).requires list.ensures copied.before.before.before.word_of.ensures (replicate widest 0) list.auto.1.0
     (length-replicate {A = ℕ} widest 0)
 
 same_length : tie.Need-same-length
@@ -78,10 +78,10 @@ returns : tie.Need-returns
 returns c =
     let copied = c.before.before.before.before.before.before.before.before.before.before.before.before in
     let fitted = c.before.before.before.before.before.Fit-row in
-    row-closed (called copied).requires copied.copy-ids.ensures copied.before.before.before.word_of.ensures fitted.ensures
+    row_closed (called copied).requires copied.copy-ids.ensures copied.before.before.before.word_of.ensures fitted.ensures
 
-pub close-row-spec : {M : Type 1} → statement M
-close-row-spec =
+pub close_row_spec : {M : Type 1} → statement M
+close_row_spec =
     tie.close
     (tie.spec
     word-of-requires

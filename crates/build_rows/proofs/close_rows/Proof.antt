@@ -5,7 +5,7 @@ use native.Mathlib.Omega.{arith}
 use lib.ListN.{length}
 use borrow.Author.Rules.{rules}
 use Rattle.given.specs.Given.{given}
-use Rattle.build_rows.proofs.Closing.{Closing, close-start, close-asks, close_more, close-end}
+use Rattle.build_rows.proofs.Closing.{Closing, close_start, close_asks, close_more, close_end}
 use Rattle.build_rows.proofs.close_rows.Statement.{statement}
 use Rattle.build_rows.proofs.close_rows.Tie as tie
 
@@ -20,12 +20,12 @@ abbrev called : (tie.At-loop invariant-loop decreases-loop) → (tie.Start invar
 called c = c.before.before.before.before.before
 
 loop-holds : tie.Need-loop-init invariant-loop decreases-loop
-loop-holds c = (close-start _ c.before.before.before.before.requires, refl)
+loop-holds c = (close_start _ c.before.before.before.before.requires, refl)
 
 close-row-requires : tie.Need-close-row-requires invariant-loop decreases-loop
 close-row-requires c κs =
     let turn = c.before.before.before in
-    close-asks _ (called turn).requires turn.loop.invariant.0 (omega (arith, c.before.before.loop-test.true)) turn.loop.invariant.1
+    close_asks _ (called turn).requires turn.loop.invariant.0 (omega (arith, c.before.before.loop-test.true)) turn.loop.invariant.1
 
 add-i : tie.Need-overflow-add-i invariant-loop decreases-loop
 add-i c = search rules
@@ -50,10 +50,10 @@ same-length-2 : tie.Need-same-length-2 invariant-loop decreases-loop
 same-length-2 c = search rules
 
 returns : tie.Need-returns invariant-loop decreases-loop
-returns c = close-end _ (called c.before).pre c.before.loop.invariant.0 (omega arith)
+returns c = close_end _ (called c.before).pre c.before.loop.invariant.0 (omega arith)
 
-pub close-rows-spec : {M : Type 1} → statement M
-close-rows-spec =
+pub close_rows_spec : {M : Type 1} → statement M
+close_rows_spec =
     tie.close
     (tie.spec
     invariant-loop

@@ -4,7 +4,7 @@ use native.Mathlib.Omega.{arith}
 use lib.ListN.{length}
 use borrow.Author.Rules.{rules}
 use Rattle.build_rows.specs.Says.{opened}
-use Rattle.build_rows.proofs.Opening.{Opening, open-start, opening-fits, put-asks, open_more, open-end}
+use Rattle.build_rows.proofs.Opening.{Opening, open_start, opening_fits, put_asks, open_more, open_end}
 use Rattle.build_rows.proofs.open_rows.Statement.{statement}
 use Rattle.build_rows.proofs.open_rows.Tie as tie
 
@@ -20,10 +20,10 @@ called c = c.before.before.before
 
 -- the row that is read lies in the opening rows
 fits : (c : (tie.In-loop invariant-loop decreases-loop)) → let a = (called c.before).args in c.before.loop.i * a.degree + a.degree ≤ length a.opening.now
-fits c = opening-fits _ c.before.before.before.before.requires c.before.loop.invariant (omega (arith, c.loop-test.true))
+fits c = opening_fits _ c.before.before.before.before.requires c.before.loop.invariant (omega (arith, c.loop-test.true))
 
 loop-holds : tie.Need-loop-init invariant-loop decreases-loop
-loop-holds c = open-start _ c.before.before.requires
+loop-holds c = open_start _ c.before.before.requires
 
 mul-a : tie.Need-overflow-mul-a invariant-loop decreases-loop
 mul-a c = omega (arith, fits c)
@@ -46,7 +46,7 @@ part-put-row-end c = fits c.before
 put-row-requires : tie.Need-put-row-requires invariant-loop decreases-loop
 put-row-requires c κs =
     let turn = c.before.before.before in
-    put-asks _ (called turn).requires turn.loop.invariant (omega (arith, c.before.before.loop-test.true))
+    put_asks _ (called turn).requires turn.loop.invariant (omega (arith, c.before.before.loop-test.true))
 
 add-i : tie.Need-overflow-add-i invariant-loop decreases-loop
 add-i c = search rules
@@ -64,10 +64,10 @@ same_length : tie.Need-same-length invariant-loop decreases-loop
 same_length c = search rules
 
 returns : tie.Need-returns invariant-loop decreases-loop
-returns c = open-end _ c.before.before.before.before.requires c.before.loop.invariant (omega arith)
+returns c = open_end _ c.before.before.before.before.requires c.before.loop.invariant (omega arith)
 
-pub open-rows-spec : {M : Type 1} → statement M
-open-rows-spec =
+pub open_rows_spec : {M : Type 1} → statement M
+open_rows_spec =
     tie.close
     (tie.spec
     invariant-loop

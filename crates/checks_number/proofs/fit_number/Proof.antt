@@ -1,62 +1,62 @@
 -- `fit_number` meets its contract.
 use borrow.Author.Rules.{rules}
-use Rattle.accepted.specs.Checks.{count-good, degree-good}
-use Rattle.checks_number.specs.Tests.{Tests, holdsAt, number_at, Clear, none_yet, past_one, found, nothing}
-use Rattle.checks_number.specs.FitNumber.{fitTests, fit-numbered}
+use Rattle.accepted.specs.Checks.{count_good, degree_good}
+use Rattle.checks_number.specs.Tests.{Tests, holds_at, number_at, Clear, none_yet, past_one, found, nothing}
+use Rattle.checks_number.specs.FitNumber.{fit_tests, fit_numbered}
 use Rattle.checks_number.proofs.fit_number.Statement.{statement}
 use Rattle.checks_number.proofs.fit_number.Tie as tie
 
 abbrev tests : tie.Start → Tests
-tests s = fitTests s.args.n s.args.degree s.args.table.now
+tests s = fit_tests s.args.n s.args.degree s.args.table.now
 
-abbrev start-1 : tie.Else1 → tie.Start
-start-1 c = c.before.before.before
+abbrev start_1 : tie.Else1 → tie.Start
+start_1 c = c.before.before.before
 
-clear-1 : (c : tie.Else1) → Clear 1 (tests (start-1 c))
-unfolding holdsAt
-clear-1 c = past_one (none_yet _) c.before.bad-count.ensures c.if1.false
+clear_1 : (c : tie.Else1) → Clear 1 (tests (start_1 c))
+unfolding holds_at
+clear_1 c = past_one (none_yet _) c.before.bad-count.ensures c.if1.false
 
-abbrev start-2 : tie.Else2 → tie.Start
-start-2 c = start-1 c.before.before
+abbrev start_2 : tie.Else2 → tie.Start
+start_2 c = start_1 c.before.before
 
-clear-2 : (c : tie.Else2) → Clear 2 (tests (start-2 c))
-unfolding holdsAt
-clear-2 c = past_one (clear-1 c.before.before) c.before.bad-degree.ensures c.if2.false
+clear_2 : (c : tie.Else2) → Clear 2 (tests (start_2 c))
+unfolding holds_at
+clear_2 c = past_one (clear_1 c.before.before) c.before.bad-degree.ensures c.if2.false
 
-abbrev start-3 : tie.Else3 → tie.Start
-start-3 c = start-2 c.before.before
+abbrev start_3 : tie.Else3 → tie.Start
+start_3 c = start_2 c.before.before
 
-clear-3 : (c : tie.Else3) → Clear 3 (tests (start-3 c))
-unfolding holdsAt
-clear-3 c = past_one (clear-2 c.before.before) c.before.bad-searched.ensures c.if3.false
+clear_3 : (c : tie.Else3) → Clear 3 (tests (start_3 c))
+unfolding holds_at
+clear_3 c = past_one (clear_2 c.before.before) c.before.bad-searched.ensures c.if3.false
 
 bad-count-requires : tie.Need-bad-count-requires
 bad-count-requires c κs = search rules
 
 returns : tie.Need-returns
-unfolding holdsAt number_at
-returns c = fit-numbered (found (none_yet _) c.before.bad-count.ensures c.if1.true)
+unfolding holds_at number_at
+returns c = fit_numbered (found (none_yet _) c.before.bad-count.ensures c.if1.true)
 
 bad-degree-requires : tie.Need-bad-degree-requires
 bad-degree-requires c κs = search rules
 
 returns-2 : tie.Need-returns-2
-unfolding holdsAt number_at
-returns-2 c = fit-numbered (found (clear-1 c.before.before) c.before.bad-degree.ensures c.if2.true)
+unfolding holds_at number_at
+returns-2 c = fit_numbered (found (clear_1 c.before.before) c.before.bad-degree.ensures c.if2.true)
 
 bad-searched-requires : tie.Need-bad-searched-requires
-unfolding holdsAt
-bad-searched-requires c κs = ((count-good _ ((clear-2 c).no 0)).1, (degree-good _ ((clear-2 c).no 1)).few)
+unfolding holds_at
+bad-searched-requires c κs = ((count_good _ ((clear_2 c).no 0)).1, (degree_good _ ((clear_2 c).no 1)).few)
 
 returns-3 : tie.Need-returns-3
-unfolding holdsAt number_at
-returns-3 c = fit-numbered (found (clear-2 c.before.before) c.before.bad-searched.ensures c.if3.true)
+unfolding holds_at number_at
+returns-3 c = fit_numbered (found (clear_2 c.before.before) c.before.bad-searched.ensures c.if3.true)
 
 returns-4 : tie.Need-returns-4
-returns-4 c = fit-numbered (nothing (clear-3 c))
+returns-4 c = fit_numbered (nothing (clear_3 c))
 
-pub fit-number-spec : {M : Type 1} → statement M
-fit-number-spec =
+pub fit_number_spec : {M : Type 1} → statement M
+fit_number_spec =
     tie.close
     (tie.spec
     bad-count-requires

@@ -1,43 +1,43 @@
 -- `limits_number` meets its contract.
 use mathlib.Core.Path.{sym, ◌∙◌}
 use borrow.Author.Rules.{rules}
-use Rattle.checks_number.specs.Tests.{Tests, holdsAt, number_at, Clear, past_one, found, nothing, early}
+use Rattle.checks_number.specs.Tests.{Tests, holds_at, number_at, Clear, past_one, found, nothing, early}
 use Rattle.checks_number.specs.Shared.{entries-clear}
-use Rattle.checks_number.specs.SearchNumber.{limitTests}
+use Rattle.checks_number.specs.SearchNumber.{limit_tests}
 use Rattle.checks_number.proofs.limits_number.Statement.{statement}
 use Rattle.checks_number.proofs.limits_number.Tie as tie
 
 abbrev tests : tie.Start → Tests
 tests s =
     let a = s.args in
-    limitTests a.n a.dim a.vectors.now a.degree a.beam a.start
+    limit_tests a.n a.dim a.vectors.now a.degree a.beam a.start
 
-abbrev start-1 : tie.Else1 → tie.Start
-start-1 c = c.before.before.before
+abbrev start_1 : tie.Else1 → tie.Start
+start_1 c = c.before.before.before
 
-clear-1 : (c : tie.Else1) → Clear 2 (tests (start-1 c))
-clear-1 c = record { no = entries-clear _ _ _ (sym c.before.entries-number.ensures ∙ c.if1.false) }
+clear_1 : (c : tie.Else1) → Clear 2 (tests (start_1 c))
+clear_1 c = record { no = entries-clear _ _ _ (sym c.before.entries-number.ensures ∙ c.if1.false) }
 
-abbrev start-2 : tie.Else2 → tie.Start
-start-2 c = start-1 c.before.before
+abbrev start_2 : tie.Else2 → tie.Start
+start_2 c = start_1 c.before.before
 
-clear-2 : (c : tie.Else2) → Clear 3 (tests (start-2 c))
-unfolding holdsAt
-clear-2 c = past_one (clear-1 c.before.before) c.before.bad-degree.ensures c.if2.false
+clear_2 : (c : tie.Else2) → Clear 3 (tests (start_2 c))
+unfolding holds_at
+clear_2 c = past_one (clear_1 c.before.before) c.before.bad-degree.ensures c.if2.false
 
-abbrev start-3 : tie.Else3 → tie.Start
-start-3 c = start-2 c.before.before
+abbrev start_3 : tie.Else3 → tie.Start
+start_3 c = start_2 c.before.before
 
-clear-3 : (c : tie.Else3) → Clear 4 (tests (start-3 c))
-unfolding holdsAt
-clear-3 c = past_one (clear-2 c.before.before) c.before.bad-beam.ensures c.if3.false
+clear_3 : (c : tie.Else3) → Clear 4 (tests (start_3 c))
+unfolding holds_at
+clear_3 c = past_one (clear_2 c.before.before) c.before.bad-beam.ensures c.if3.false
 
-abbrev start-4 : tie.Else4 → tie.Start
-start-4 c = start-3 c.before.before
+abbrev start_4 : tie.Else4 → tie.Start
+start_4 c = start_3 c.before.before
 
-clear-4 : (c : tie.Else4) → Clear 5 (tests (start-4 c))
-unfolding holdsAt
-clear-4 c = past_one (clear-3 c.before.before) c.before.bad-start.ensures c.if4.false
+clear_4 : (c : tie.Else4) → Clear 5 (tests (start_4 c))
+unfolding holds_at
+clear_4 c = past_one (clear_3 c.before.before) c.before.bad-start.ensures c.if4.false
 
 entries-number-requires : tie.Need-entries-number-requires
 entries-number-requires c κs = search rules
@@ -49,28 +49,28 @@ bad-degree-requires : tie.Need-bad-degree-requires
 bad-degree-requires c κs = search rules
 
 returns-2 : tie.Need-returns-2
-unfolding holdsAt number_at
-returns-2 c = found (clear-1 c.before.before) c.before.bad-degree.ensures c.if2.true
+unfolding holds_at number_at
+returns-2 c = found (clear_1 c.before.before) c.before.bad-degree.ensures c.if2.true
 
 bad-beam-requires : tie.Need-bad-beam-requires
 bad-beam-requires c κs = search rules
 
 returns-3 : tie.Need-returns-3
-unfolding holdsAt number_at
-returns-3 c = found (clear-2 c.before.before) c.before.bad-beam.ensures c.if3.true
+unfolding holds_at number_at
+returns-3 c = found (clear_2 c.before.before) c.before.bad-beam.ensures c.if3.true
 
 bad-start-requires : tie.Need-bad-start-requires
 bad-start-requires c κs = search rules
 
 returns-4 : tie.Need-returns-4
-unfolding holdsAt number_at
-returns-4 c = found (clear-3 c.before.before) c.before.bad-start.ensures c.if4.true
+unfolding holds_at number_at
+returns-4 c = found (clear_3 c.before.before) c.before.bad-start.ensures c.if4.true
 
 returns-5 : tie.Need-returns-5
-returns-5 c = nothing (clear-4 c)
+returns-5 c = nothing (clear_4 c)
 
-pub limits-number-spec : {M : Type 1} → statement M
-limits-number-spec =
+pub limits_number_spec : {M : Type 1} → statement M
+limits_number_spec =
     tie.close
     (tie.spec
     entries-number-requires

@@ -4,7 +4,7 @@ use Prim.Native.Nat.{◌-◌}
 use native.Mathlib.Omega.{arith}
 use lib.ListN.{length}
 use borrow.Author.Rules.{rules}
-use Rattle.checks_repeats.specs.Bits.{Passing, pass-start, pass-again, pass_on, pass-end}
+use Rattle.checks_repeats.specs.Bits.{Passing, pass-start, pass_again, pass_on, pass_end}
 use Rattle.checks_repeats.proofs.has_repeat.Statement.{statement}
 use Rattle.checks_repeats.proofs.has_repeat.Tie as tie
 
@@ -38,7 +38,7 @@ shr-if1 c = omega (arith, c.before.before.before.requires.at c.before.before.loo
 returns : tie.Need-returns invariant-loop decreases-loop
 returns c =
     let t = c.before.before.before in let o = t.loop in
-    pass-again t.before.args.ids.now o.i o.bits o.invariant c.before.before.loop-test.true _ refl c.if1.true
+    pass_again t.before.args.ids.now o.i o.bits o.invariant c.before.before.loop-test.true _ refl c.if1.true
 
 shl-bits : tie.Need-overflow-shl-bits invariant-loop decreases-loop
 shl-bits c = omega (arith, c.before.before.before.before.requires.at c.before.before.before.loop.i)
@@ -61,10 +61,10 @@ loop-again c =
     pass_on u.args.ids.now o.i o.bits o.invariant c.before.before.loop-test.true _ refl (u.requires.at o.i) c.if1.false
 
 returns-2 : tie.Need-returns-2 invariant-loop decreases-loop
-returns-2 c = pass-end _ _ _ c.before.loop.invariant c.loop-test.false
+returns-2 c = pass_end _ _ _ c.before.loop.invariant c.loop-test.false
 
-pub has-repeat-spec : {M : Type 1} → statement M
-has-repeat-spec =
+pub has_repeat_spec : {M : Type 1} → statement M
+has_repeat_spec =
     tie.close
     (tie.spec
     invariant-loop

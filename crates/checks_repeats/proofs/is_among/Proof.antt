@@ -5,7 +5,7 @@ use Prim.Native.Nat.{◌-◌}
 use native.Mathlib.Omega.{arith}
 use lib.ListN.{length}
 use borrow.Author.Rules.{rules}
-use Rattle.checks_repeats.specs.Among.{Sought, among-start, among-here, among_later, among-end}
+use Rattle.checks_repeats.specs.Among.{Sought, among_start, among_here, among_later, among_end}
 use Rattle.checks_repeats.proofs.is_among.Statement.{statement}
 use Rattle.checks_repeats.proofs.is_among.Tie as tie
 
@@ -16,7 +16,7 @@ abbrev decreases-loop : tie.decreases-loop
 decreases-loop x ids found₀ i₀ found i = length ids - i
 
 loop-holds : tie.Need-loop-init invariant-loop decreases-loop
-loop-holds c = among-start _ _
+loop-holds c = among_start _ _
 
 mul-if1 : tie.Need-overflow-mul-if1 invariant-loop decreases-loop
 mul-if1 c = search rules
@@ -34,15 +34,15 @@ loop-again : tie.Need-loop-preserved invariant-loop decreases-loop
 loop-again c =
     let s = c.before.before in let t = s.before in let u = t.before in let a = u.args in let o = t.loop in
     ⊎_elim
-    (λ w. subst (Sought _ _ _) (sym w.1) (among-here a.x a.ids.now o.i o.found o.invariant s.loop-test.true w.0.taken))
+    (λ w. subst (Sought _ _ _) (sym w.1) (among_here a.x a.ids.now o.i o.found o.invariant s.loop-test.true w.0.taken))
     (λ w. subst (Sought _ _ _) (sym w.1) (among_later a.x a.ids.now o.i o.found o.invariant s.loop-test.true w.0.left))
     c.if1.branch
 
 returns : tie.Need-returns invariant-loop decreases-loop
-returns c = among-end _ _ _ _ c.before.loop.invariant c.loop-test.false
+returns c = among_end _ _ _ _ c.before.loop.invariant c.loop-test.false
 
-pub is-among-spec : {M : Type 1} → statement M
-is-among-spec =
+pub is_among_spec : {M : Type 1} → statement M
+is_among_spec =
     tie.close
     (tie.spec
     invariant-loop

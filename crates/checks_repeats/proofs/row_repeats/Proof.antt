@@ -5,7 +5,7 @@ use Prim.Native.Nat.{◌-◌}
 use native.Mathlib.Omega.{arith}
 use lib.ListN.{length}
 use borrow.Author.Rules.{rules}
-use Rattle.checks_repeats.specs.Stamps.{Stamped, stamp-start, stamp-own, stamp-among, stamp-fresh, stamp-looked, stamp-end}
+use Rattle.checks_repeats.specs.Stamps.{Stamped, stamp_start, stamp_own, stamp_among, stamp_fresh, stamp_looked, stamp_end}
 use Rattle.checks_repeats.proofs.row_repeats.Statement.{statement}
 use Rattle.checks_repeats.proofs.row_repeats.Tie as tie
 
@@ -28,7 +28,7 @@ slice-write-marks : tie.Need-slice-write-marks invariant-loop decreases-loop
 slice-write-marks c = search rules
 
 loop-holds : tie.Need-loop-init invariant-loop decreases-loop
-loop-holds c = stamp-start _ _ _ c.before.before.args.marks.now c.before.before.requires
+loop-holds c = stamp_start _ _ _ c.before.before.args.marks.now c.before.before.requires
 
 mul-x : tie.Need-overflow-mul-x invariant-loop decreases-loop
 mul-x c = search rules
@@ -48,7 +48,7 @@ same_length c = search rules
 returns : tie.Need-returns invariant-loop decreases-loop
 returns c =
     let t = c.before.before.before.before.before in let o = t.loop in let a = t.before.before.before.args in
-    stamp-own a.own _ a.ids.now o.i o.marks o.invariant c.before.before.before.before.loop-test.true _ refl c.if2.true
+    stamp_own a.own _ a.ids.now o.i o.marks o.invariant c.before.before.before.before.loop-test.true _ refl c.if2.true
 
 sub-is-among : tie.Need-overflow-sub-is-among invariant-loop decreases-loop
 sub-is-among c = search rules
@@ -68,7 +68,7 @@ same-length-2 c = search rules
 returns-2 : tie.Need-returns-2 invariant-loop decreases-loop
 returns-2 c =
     let s = c.before.before.before.before.before.before.before in let t = s.before in let o = t.loop in let a = t.before.before.before.args in
-    stamp-among a.own _ a.ids.now o.i o.marks o.invariant s.loop-test.true _ refl (sym c.before.is_among.ensures ∙ c.if3.true)
+    stamp_among a.own _ a.ids.now o.i o.marks o.invariant s.loop-test.true _ refl (sym c.before.is_among.ensures ∙ c.if3.true)
 
 slice-write-marks-2 : tie.Need-slice-write-marks-2 invariant-loop decreases-loop
 slice-write-marks-2 c = search rules
@@ -84,18 +84,18 @@ loop-again c =
     let t = c.before.before.before.before in let o = t.loop in let a = t.before.before.before.args in
     let h = c.before.before.before.loop-test.true in
     ⊎_elim
-    (λ w. stamp-looked a.own _ a.ids.now o.i o.marks o.invariant h _ refl w.1.left (sym w.3.ensures ∙ w.4.left))
-    (λ w. stamp-fresh a.own _ a.ids.now o.i o.marks o.invariant h _ refl w.left)
+    (λ w. stamp_looked a.own _ a.ids.now o.i o.marks o.invariant h _ refl w.1.left (sym w.3.ensures ∙ w.4.left))
+    (λ w. stamp_fresh a.own _ a.ids.now o.i o.marks o.invariant h _ refl w.left)
     c.if1.branch
 
 same-length-3 : tie.Need-same-length-3 invariant-loop decreases-loop
 same-length-3 c = search rules
 
 returns-3 : tie.Need-returns-3 invariant-loop decreases-loop
-returns-3 c = stamp-end _ _ _ _ _ c.before.loop.invariant c.loop-test.false
+returns-3 c = stamp_end _ _ _ _ _ c.before.loop.invariant c.loop-test.false
 
-pub row-repeats-spec : {M : Type 1} → statement M
-row-repeats-spec =
+pub row_repeats_spec : {M : Type 1} → statement M
+row_repeats_spec =
     tie.close
     (tie.spec
     invariant-loop

@@ -15,6 +15,6 @@ pub cut_right : crowded 749 ≡ 1 ∷ []
 unfolding crowded opened
 cut_right = refl
 
-pub uncut-right : crowded 748 ≡ 1 ∷ 2 ∷ []
+pub uncut_right : crowded 748 ≡ 1 ∷ 2 ∷ []
 unfolding crowded opened
-uncut-right = refl
+uncut_right = refl

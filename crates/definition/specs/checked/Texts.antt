@@ -6,12 +6,12 @@ use Rattle.definition.specs.Seek.{seek}
 use Rattle.definition.specs.checked.Opened.{opened}
 
 -- the bytes of a text in ASCII, from place i on
-unfoldable pub bytesFrom : String → ℕ → ℕ → List ℕ
-bytesFrom t i zero = []
-bytesFrom t i (suc k) = code (char_at t i) ∷ bytesFrom t (i + 1) k
+unfoldable pub bytes_from : String → ℕ → ℕ → List ℕ
+bytes_from t i zero = []
+bytes_from t i (suc k) = code (char_at t i) ∷ bytes_from t (i + 1) k
 
 unfoldable pub bytes : String → List ℕ
-bytes t = bytesFrom t 0 (len t)
+bytes t = bytes_from t 0 (len t)
 
 pub record Text : Type 0 where
   pub given : String
@@ -43,6 +43,6 @@ texts =
     prints "0 1 2 0 2 2 38" "refused 2\n" ∷
     []
 
-pub texts-right : map (λ t. seek (bytes t.given)) texts ≡ map (λ t. bytes t.printed) texts
-unfolding texts bytes bytesFrom opened
-texts-right = refl
+pub texts_right : map (λ t. seek (bytes t.given)) texts ≡ map (λ t. bytes t.printed) texts
+unfolding texts bytes bytes_from opened
+texts_right = refl

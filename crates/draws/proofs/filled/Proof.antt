@@ -10,5 +10,5 @@ done-requires c κs = search rules
 returns : tie.Need-returns
 returns c = ap (stepped _) c.done.ensures
 
-pub filled-spec : {M : Type 1} → statement M
-filled-spec = tie.close (tie.spec done-requires returns)
+pub filled_spec : {M : Type 1} → statement M
+filled_spec = tie.close (tie.spec done-requires returns)

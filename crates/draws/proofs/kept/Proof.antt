@@ -10,5 +10,5 @@ refused-requires c κs = search rules
 returns : tie.Need-returns
 returns c = ap (stepped _) c.refused.ensures
 
-pub kept-spec : {M : Type 1} → statement M
-kept-spec = tie.close (tie.spec refused-requires returns)
+pub kept_spec : {M : Type 1} → statement M
+kept_spec = tie.close (tie.spec refused-requires returns)

@@ -9,10 +9,10 @@ use contract.Lifetimes.{Lfts}
 use types.Kit.{ ! }
 use denote.Signature.{named_lft}
 use Rattle.walks.specs.Script.{◌>>◌, ◌>>=◌}
-use Rattle.walks.specs.Calls.{Param, a-mut, a-u32, spelled, Callee, Function, spelt, proved, ended, called}
+use Rattle.walks.specs.Calls.{Param, a_mut, a_u32, spelled, Callee, Function, spelt, proved, ended, called}
 use Rattle.walks.specs.Moves.{here, values}
 use Rattle.draws_lent.specs.contracts.Generator as G
-use Rattle.draws_lent.proofs.Lent.{state-read, state-stored}
+use Rattle.draws_lent.proofs.Lent.{state_read, state_stored}
 use Rattle.draws.specs.contracts.one_drawn as callee
 use Rattle.draws.proofs.one_drawn.Symbol as callee-def
 use Rattle.draws.proofs.one_drawn.Met as callee-thm
@@ -22,7 +22,7 @@ use Rattle.draws_lent.proofs.draw.Statement as stated
 use Rattle.draws_lent.proofs.draw.Code as code
 
 abbrev params : Lfts 1 → List Param
-params κs = a-mut (named_lft 1 0 tt κs) G.the_row tt ∷ a-u32 ∷ []
+params κs = a_mut (named_lft 1 0 tt κs) G.the_row tt ∷ a_u32 ∷ []
 
 abbrev draw : Function
 draw = record {
@@ -39,13 +39,13 @@ draw = record {
 abbrev one-drawn : Callee
 one-drawn = record { name = callee-def.name; ended = callee.ended; clauses = λ M. callee.clauses; routine = callee-def.routine; met = λ M. callee-thm.met }
 
-pub draw-spec : {M : Type 1} → stated.statement M
+pub draw_spec : {M : Type 1} → stated.statement M
 unfolding code.routine
-draw-spec 𝓤 𝓛 𝓜 𝓡 = proved 𝓛 𝓜 𝓡 draw (λ κs qs bounds a g are bs.
+draw_spec 𝓤 𝓛 𝓜 𝓡 = proved 𝓛 𝓜 𝓡 draw (λ κs qs bounds a g are bs.
     let s : ℕ = a.0.now.state in
     do
-      state-read ! a.0 refl refl refl
+      state_read ! a.0 refl refl refl
       (w, r, ws) ← called 𝓛 𝓜 𝓡 draw one-drawn ! code.calls-draws::one-drawn
           ((κs.1, qs.1, tt, (s, a.1), (vint w64 s ∷ [], (spelt draw κs a).1)), tt) (id⊢ 𝓤 (emp 𝓤)) (values ! here refl)
-      state-stored ! a.0 s r refl refl refl refl (tt, tt)
+      state_stored ! a.0 s r refl refl refl refl (tt, tt)
           (ended 𝓛 𝓜 𝓡 draw ((κs, qs, bounds, a, spelt draw κs a), tt) _ r.answer (record { state = r.state }, ws.1)))

@@ -10,10 +10,10 @@ use types.Kit.{ ! }
 use denote.Builtin.{u32}
 use denote.Signature.{named_lft}
 use Rattle.walks.specs.Script.{◌>>◌, ◌>>=◌}
-use Rattle.walks.specs.Calls.{Param, a-mut, a-usize, a-mut-slice, spelled, Callee, Function, spelt, proved, ended, called}
+use Rattle.walks.specs.Calls.{Param, a_mut, a_usize, a_mut_slice, spelled, Callee, Function, spelt, proved, ended, called}
 use Rattle.walks.specs.Moves.{here, relends, values}
 use Rattle.draws_lent.specs.contracts.Generator as G
-use Rattle.draws_lent.proofs.Lent.{state-read, state-stored}
+use Rattle.draws_lent.proofs.Lent.{state_read, state_stored}
 use Rattle.draws.specs.contracts.order_drawn as callee
 use Rattle.draws.proofs.order_drawn.Symbol as callee-def
 use Rattle.draws.proofs.order_drawn.Met as callee-thm
@@ -23,10 +23,10 @@ use Rattle.draws_lent.proofs.draw_order.Statement as stated
 use Rattle.draws_lent.proofs.draw_order.Code as code
 
 abbrev params : Lfts 2 → List Param
-params κs = a-mut (named_lft 2 0 tt κs) G.the_row tt ∷ a-usize ∷ a-mut-slice (named_lft 2 1 tt κs) u32 tt ∷ []
+params κs = a_mut (named_lft 2 0 tt κs) G.the_row tt ∷ a_usize ∷ a_mut_slice (named_lft 2 1 tt κs) u32 tt ∷ []
 
-abbrev draw-order : Function
-draw-order = record {
+abbrev draw_order : Function
+draw_order = record {
   name = own_key.name;
   ended = own.ended;
   clauses = λ M. own.clauses;
@@ -37,17 +37,17 @@ draw-order = record {
   typed = λ κs a t. t;
 }
 
-abbrev order-drawn : Callee
-order-drawn = record { name = callee-def.name; ended = callee.ended; clauses = λ M. callee.clauses; routine = callee-def.routine; met = λ M. callee-thm.met }
+abbrev order_drawn_lem : Callee
+order_drawn_lem = record { name = callee-def.name; ended = callee.ended; clauses = λ M. callee.clauses; routine = callee-def.routine; met = λ M. callee-thm.met }
 
-pub draw-order-spec : {M : Type 1} → stated.statement M
+pub draw_order_spec : {M : Type 1} → stated.statement M
 unfolding code.routine
-draw-order-spec 𝓤 𝓛 𝓜 𝓡 = proved 𝓛 𝓜 𝓡 draw-order (λ κs qs bounds a g are bs.
+draw_order_spec 𝓤 𝓛 𝓜 𝓡 = proved 𝓛 𝓜 𝓡 draw_order (λ κs qs bounds a g are bs.
     let s : ℕ = a.0.now.state in
     do
-      state-read ! a.0 refl refl refl
+      state_read ! a.0 refl refl refl
       relends ! here refl refl refl tt
-      (w, r, ws) ← called 𝓛 𝓜 𝓡 draw-order order-drawn ! code.calls-draws::order-drawn
-          ((κs.1, qs.1, tt, (s, a.1), (vint w64 s ∷ [], (spelt draw-order κs a).1)), tt) (id⊢ 𝓤 (emp 𝓤)) (values ! here refl)
-      state-stored ! a.0 s r refl refl refl refl (tt, tt)
-          (ended 𝓛 𝓜 𝓡 draw-order ((κs, qs, bounds, a, spelt draw-order κs a), tt) _ r.answer (record { state = r.state }, ws.1)))
+      (w, r, ws) ← called 𝓛 𝓜 𝓡 draw_order order_drawn_lem ! code.calls-draws::order-drawn
+          ((κs.1, qs.1, tt, (s, a.1), (vint w64 s ∷ [], (spelt draw_order κs a).1)), tt) (id⊢ 𝓤 (emp 𝓤)) (values ! here refl)
+      state_stored ! a.0 s r refl refl refl refl (tt, tt)
+          (ended 𝓛 𝓜 𝓡 draw_order ((κs, qs, bounds, a, spelt draw_order κs a), tt) _ r.answer (record { state = r.state }, ws.1)))

@@ -10,10 +10,10 @@ use types.Kit.{ ! }
 use denote.Builtin.{u32}
 use denote.Signature.{named_lft}
 use Rattle.walks.specs.Script.{◌>>◌, ◌>>=◌}
-use Rattle.walks.specs.Calls.{Param, a-mut, a-usize, a-u32, a-mut-slice, spelled, Callee, Function, spelt, proved, ended, called}
+use Rattle.walks.specs.Calls.{Param, a_mut, a_usize, a_u32, a_mut_slice, spelled, Callee, Function, spelt, proved, ended, called}
 use Rattle.walks.specs.Moves.{here, relends, values}
 use Rattle.draws_lent.specs.contracts.Generator as G
-use Rattle.draws_lent.proofs.Lent.{state-read, state-stored}
+use Rattle.draws_lent.proofs.Lent.{state_read, state_stored}
 use Rattle.draws.specs.contracts.seeds_drawn as callee
 use Rattle.draws.proofs.seeds_drawn.Symbol as callee-def
 use Rattle.draws.proofs.seeds_drawn.Met as callee-thm
@@ -23,10 +23,10 @@ use Rattle.draws_lent.proofs.draw_seeds.Statement as stated
 use Rattle.draws_lent.proofs.draw_seeds.Code as code
 
 abbrev params : Lfts 2 → List Param
-params κs = a-mut (named_lft 2 0 tt κs) G.the_row tt ∷ a-usize ∷ a-u32 ∷ a-usize ∷ a-mut-slice (named_lft 2 1 tt κs) u32 tt ∷ []
+params κs = a_mut (named_lft 2 0 tt κs) G.the_row tt ∷ a_usize ∷ a_u32 ∷ a_usize ∷ a_mut_slice (named_lft 2 1 tt κs) u32 tt ∷ []
 
-abbrev draw-seeds : Function
-draw-seeds = record {
+abbrev draw_seeds : Function
+draw_seeds = record {
   name = own_key.name;
   ended = own.ended;
   clauses = λ M. own.clauses;
@@ -37,17 +37,17 @@ draw-seeds = record {
   typed = λ κs a t. t;
 }
 
-abbrev seeds-drawn : Callee
-seeds-drawn = record { name = callee-def.name; ended = callee.ended; clauses = λ M. callee.clauses; routine = callee-def.routine; met = λ M. callee-thm.met }
+abbrev seeds_drawn_lem : Callee
+seeds_drawn_lem = record { name = callee-def.name; ended = callee.ended; clauses = λ M. callee.clauses; routine = callee-def.routine; met = λ M. callee-thm.met }
 
-pub draw-seeds-spec : {M : Type 1} → stated.statement M
+pub draw_seeds_spec : {M : Type 1} → stated.statement M
 unfolding code.routine
-draw-seeds-spec 𝓤 𝓛 𝓜 𝓡 = proved 𝓛 𝓜 𝓡 draw-seeds (λ κs qs bounds a g are bs.
+draw_seeds_spec 𝓤 𝓛 𝓜 𝓡 = proved 𝓛 𝓜 𝓡 draw_seeds (λ κs qs bounds a g are bs.
     let s : ℕ = a.0.now.state in
     do
-      state-read ! a.0 refl refl refl
+      state_read ! a.0 refl refl refl
       relends ! here refl refl refl tt
-      (w, r, ws) ← called 𝓛 𝓜 𝓡 draw-seeds seeds-drawn ! code.calls-draws::seeds-drawn
-          ((κs.1, qs.1, tt, (s, a.1), (vint w64 s ∷ [], (spelt draw-seeds κs a).1)), tt) (id⊢ 𝓤 (emp 𝓤)) (values ! here refl)
-      state-stored ! a.0 s r refl refl refl refl (tt, tt)
-          (ended 𝓛 𝓜 𝓡 draw-seeds ((κs, qs, bounds, a, spelt draw-seeds κs a), tt) _ r.answer (record { state = r.state }, ws.1)))
+      (w, r, ws) ← called 𝓛 𝓜 𝓡 draw_seeds seeds_drawn_lem ! code.calls-draws::seeds-drawn
+          ((κs.1, qs.1, tt, (s, a.1), (vint w64 s ∷ [], (spelt draw_seeds κs a).1)), tt) (id⊢ 𝓤 (emp 𝓤)) (values ! here refl)
+      state_stored ! a.0 s r refl refl refl refl (tt, tt)
+          (ended 𝓛 𝓜 𝓡 draw_seeds ((κs, qs, bounds, a, spelt draw_seeds κs a), tt) _ r.answer (record { state = r.state }, ws.1)))

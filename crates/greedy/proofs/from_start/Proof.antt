@@ -2,8 +2,8 @@
 use mathlib.Core.Path.{sym, subst}
 use borrow.Author.Rules.{rules}
 use Rattle.greedy.specs.Scratch.{Ends}
-use Rattle.greedy.specs.Cases.{from-none, from_some}
-use Rattle.greedy.proofs.Runs.{start-ends}
+use Rattle.greedy.specs.Cases.{from_none, from_some}
+use Rattle.greedy.proofs.Runs.{start_ends}
 use Rattle.greedy.proofs.from_start.Statement.{statement}
 use Rattle.greedy.proofs.from_start.Tie as tie
 
@@ -26,7 +26,7 @@ returns : tie.Need-returns
 returns c =
     let k = c.before.before.before.before.before.before.before.before in
     let none = k.before.before.before.before.before.if1.true in
-    subst (Ends _ _ _ _ _ _) (sym (from-none _ _ _ _ none)) (start-ends _ _ _ k.step.ensures)
+    subst (Ends _ _ _ _ _ _) (sym (from_none _ _ _ _ none)) (start_ends _ _ _ k.step.ensures)
 
 walk-requires : tie.Need-walk-requires
 walk-requires c κs =
@@ -52,8 +52,8 @@ returns-2 c =
     let some = k.before.before.before.before.before.if1.false in
     subst (Ends _ _ _ _ _ _) (sym (from_some _ _ _ _ some)) k.walk.ensures
 
-pub from-start-spec : {M : Type 1} → statement M
-from-start-spec =
+pub from_start_spec : {M : Type 1} → statement M
+from_start_spec =
     tie.close
     (tie.spec
     step-requires

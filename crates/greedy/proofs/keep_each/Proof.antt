@@ -4,7 +4,7 @@ use native.Mathlib.Omega.{arith}
 use lib.ListN.{length, take, length-set}
 use borrow.Author.Rules.{rules}
 use Rattle.greedy.specs.Scratch.{Keeps}
-use Rattle.greedy.proofs.Listing.{keeps-none, keeps-more, keeps-all}
+use Rattle.greedy.proofs.Listing.{keeps_none, keeps_more, keeps_all}
 use Rattle.greedy.proofs.keep_each.Statement.{statement}
 use Rattle.greedy.proofs.keep_each.Tie as tie
 
@@ -27,7 +27,7 @@ add-dists-at : tie.Need-overflow-add-dists-at invariant-loop decreases-loop
 add-dists-at c = search rules
 
 loop-holds : tie.Need-loop-init invariant-loop decreases-loop
-loop-holds c = (omega arith, keeps-none _ _ _)
+loop-holds c = (omega arith, keeps_none _ _ _)
 
 add-i : tie.Need-overflow-add-i invariant-loop decreases-loop
 add-i c = search rules
@@ -70,7 +70,7 @@ loop-again c =
     let l = c.before.before.before in
     let s = l.before.before.before.before.before.before in (
       omega arith,
-      keeps-more s.args.ids.now s.args.dists.now l.loop.j l.loop.invariant.1 (omega arith) (omega arith) (omega arith) (omega arith) _ _
+      keeps_more s.args.ids.now s.args.dists.now l.loop.j l.loop.invariant.1 (omega arith) (omega arith) (omega arith) (omega arith) _ _
           (omega arith) (omega arith),
     )
 
@@ -81,10 +81,10 @@ returns : tie.Need-returns invariant-loop decreases-loop
 returns c =
     let l = c.before in
     let s = l.before.before.before.before.before.before in
-    keeps-all s.args.ids.now s.args.dists.now l.loop.j l.loop.invariant.1 (omega arith) (omega arith)
+    keeps_all s.args.ids.now s.args.dists.now l.loop.j l.loop.invariant.1 (omega arith) (omega arith)
 
-pub keep-each-spec : {M : Type 1} → statement M
-keep-each-spec =
+pub keep_each_spec : {M : Type 1} → statement M
+keep_each_spec =
     tie.close
     (tie.spec
     invariant-loop

@@ -9,7 +9,7 @@ use Rattle.definition.specs.Tables.{row, cleaned}
 use Rattle.laws.specs.Cleaned.{row-cleaned}
 use Rattle.laws.specs.Parts.{part, part_length}
 use Rattle.laws.specs.Tables.{part-row}
-use Rattle.kept.specs.Laws.{works-fit}
+use Rattle.kept.specs.Laws.{works_fit}
 use Rattle.greedy.specs.Scratch.{row_in}
 use Rattle.greedy.proofs.step.Statement.{statement}
 use Rattle.greedy.proofs.step.Tie as tie
@@ -35,7 +35,7 @@ add-to c = omega (arith, fits c)
 touch-next-requires : tie.Need-touch-next-requires
 touch-next-requires c κs =
     let s = c.before.before.before.before.before.before.before.before.before in
-    (works-fit s.requires.1.0.is.working, (s.requires.1.1.0.narrow, s.requires.1.1.1.2))
+    (works_fit s.requires.1.0.is.working, (s.requires.1.1.0.narrow, s.requires.1.1.1.2))
 
 mul-expand : tie.Need-overflow-mul-expand
 mul-expand c = omega (arith, fits c.before.before.before.before.before.before.before.before.before)
@@ -56,7 +56,7 @@ expand-requires c κs =
     let g = s.requires.1.1.0 in
     let from = s.args.id * s.args.p.width in
     let size = part_length from (from + s.args.p.width) s.args.table.now (fits q).0 in
-    (s.requires.0, (s.requires.1.0, (g.measures, record { ids-fit = omega (arith, size, g.narrow); dists-fit = omega arith; few = omega arith })))
+    (s.requires.0, (s.requires.1.0, (g.measures, record { ids_fit = omega (arith, size, g.narrow); dists_fit = omega arith; few = omega arith })))
 
 same_length : tie.Need-same-length
 same_length c = search rules

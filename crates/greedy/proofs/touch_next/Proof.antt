@@ -47,8 +47,8 @@ returns c = tt
 returns-2 : tie.Need-returns-2
 returns-2 c = tt
 
-pub touch-next-spec : {M : Type 1} → statement M
-touch-next-spec =
+pub touch_next_spec : {M : Type 1} → statement M
+touch_next_spec =
     tie.close
     (tie.spec
     ahead-requires

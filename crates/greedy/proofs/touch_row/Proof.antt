@@ -43,8 +43,8 @@ same_length c = search rules
 returns : tie.Need-returns invariant-loop decreases-loop
 returns c = tt
 
-pub touch-row-spec : {M : Type 1} → statement M
-touch-row-spec =
+pub touch_row_spec : {M : Type 1} → statement M
+touch_row_spec =
     tie.close
     (tie.spec
     invariant-loop

@@ -7,10 +7,10 @@ use native.Mathlib.Omega.{arith}
 use borrow.Author.Tests.{lt-ltb, le-ltb}
 use borrow.Author.Rules.{rules}
 use lib.Dec.{ltb}
-use Rattle.beam.specs.Keys.{openKey}
+use Rattle.beam.specs.Keys.{open_key}
 use Rattle.kept.specs.Says.{Standing, standing}
 use Rattle.kept.specs.Laws.{works-length}
-use Rattle.kept.proofs.Admitting.{Comes, last_of, last-free, last-worst, last-below, admit-asks, admit-in, admit-out}
+use Rattle.kept.proofs.Admitting.{Comes, last_of, last-free, last-worst, last_below, admit_asks, admit_in, admit_out}
 use Rattle.kept.proofs.admit.Statement.{statement}
 use Rattle.kept.proofs.admit.Tie as tie
 
@@ -19,7 +19,7 @@ abbrev at : tie.Start → Standing
 at s = standing s.args.keys.now s.args.w
 
 -- what the test of the key says of the item
-comes : (s : tie.Start) (t : Bool) (key : ℕ) → key ≡ openKey s.args.dist s.args.id → ltb key s.args.w.bound ≡ t
+comes : (s : tie.Start) (t : Bool) (key : ℕ) → key ≡ open_key s.args.dist s.args.id → ltb key s.args.w.bound ≡ t
     → Comes s.args.w.bound s.args.dist s.args.id t
 comes s t key e h = record { own = s.requires.1; near = omega arith; test = ap (λ (k : ℕ). ltb k s.args.w.bound) (sym e) ∙ h }
 
@@ -39,10 +39,10 @@ place c =
     ⊎_elim (λ w. last-free a.beam a.w.len c.if2.new w.0.taken w.1)
     (λ w. last-worst a.beam a.w.len c.if2.new w.0.left w.2) c.if2.branch
 
-last-in : (c : tie.Joined2) → c.if2.new < (start c.before.before).args.beam
-last-in c =
+last_in : (c : tie.Joined2) → c.if2.new < (start c.before.before).args.beam
+last_in c =
     let s = start c.before.before in
-    rw (place c) (last-below s.args.beam (at s) s.args.dist s.args.id (below c.before.before) s.pre.0)
+    rw (place c) (last_below s.args.beam (at s) s.args.dist s.args.id (below c.before.before) s.pre.0)
 
 key-of-requires : tie.Need-key-of-requires
 key-of-requires c κs = search rules
@@ -50,7 +50,7 @@ key-of-requires c κs = search rules
 sub-last : tie.Need-overflow-sub-last
 sub-last c =
     let s = start c.before.before.before in
-    let h = last-below s.args.beam (at s) s.args.dist s.args.id (below c.before.before.before) s.pre.0 in
+    let h = last_below s.args.beam (at s) s.args.dist s.args.id (below c.before.before.before) s.pre.0 in
     omega (arith, c.before.if2.false)
 
 put-requires : tie.Need-put-requires
@@ -58,10 +58,10 @@ put-requires c κs =
     let j = c.before in
     let s = start j.before.before in
     rw j.before.before.before.before.key_of.ensures
-    (admit-asks s.args.beam (at s) s.args.dist s.args.id (below j.before.before) j.if2.new (place j) s.pre.0)
+    (admit_asks s.args.beam (at s) s.args.dist s.args.id (below j.before.before) j.if2.new (place j) s.pre.0)
 
 add-len : tie.Need-overflow-add-len
-add-len c = let j = c.before.before.before.before.before in omega (arith, last-in j, (start j.before.before).requires.0.is.beam-le)
+add-len c = let j = c.before.before.before.before.before in omega (arith, last_in j, (start j.before.before).requires.0.is.beam_le)
 
 least-requires : tie.Need-least-requires
 least-requires c κs = search rules
@@ -71,7 +71,7 @@ bound-of-requires c κs =
     let p = c.before.before.before.before.before in
     let j = p.before.before in
     let s = start j.before.before in
-    (omega arith, omega (arith, last-in j, p.put.auto.0, works-length _ _ _ _ _ s.pre.0.is, s.pre.0.is.beam-le))
+    (omega arith, omega (arith, last_in j, p.put.auto.0, works-length _ _ _ _ _ s.pre.0.is, s.pre.0.is.beam_le))
 
 same_length : tie.Need-same-length
 same_length c = search rules
@@ -82,18 +82,18 @@ returns c =
     let j = p.before.before in
     let s = start j.before.before in
     rw (c.bound_of.ensures, c.before.before.least.ensures)
-    (admit-in s.args.beam (at s) s.args.dist s.args.id (below j.before.before) j.if2.new (place j) s.pre.0
+    (admit_in s.args.beam (at s) s.args.dist s.args.id (below j.before.before) j.if2.new (place j) s.pre.0
     p.put.result p.put.new.0 (rw j.before.before.before.before.key_of.ensures at p.put.ensures))
 
 returns-2 : tie.Need-returns-2
 returns-2 c =
     let k = c.before.before.key_of in
     let s = c.before.before.before.before in
-    admit-out s.args.beam (at s) s.args.dist s.args.id
+    admit_out s.args.beam (at s) s.args.dist s.args.id
     (comes s false k.result k.ensures (le-ltb k.result s.args.w.bound c.if1.false))
 
-pub admit-spec : {M : Type 1} → statement M
-admit-spec =
+pub admit_spec : {M : Type 1} → statement M
+admit_spec =
     tie.close
     (tie.spec
     key-of-requires

@@ -4,12 +4,12 @@ use Prim.Native.Nat.{◌-◌}
 use native.Mathlib.Omega.{arith}
 use borrow.Author.Rules.{rules}
 use borrow.Author.Tests.{lt-ltb, le-ltb}
-use Rattle.kept.specs.Says.{boundK}
+use Rattle.kept.specs.Says.{bound_k}
 use Rattle.kept.proofs.bound_of.Statement.{statement}
 use Rattle.kept.proofs.bound_of.Tie as tie
 
 returns : tie.Need-returns
-unfolding boundK
+unfolding bound_k
 returns c = let s = c.before in rw (lt-ltb s.args.len s.args.beam c.if1.true) refl
 
 sub-last : tie.Need-overflow-sub-last
@@ -25,8 +25,8 @@ mul-result-2 : tie.Need-overflow-mul-result-2
 mul-result-2 c = omega (arith, c.shared-slice-known.given (c.before.before.args.len - 1))
 
 returns-2 : tie.Need-returns-2
-unfolding boundK
+unfolding bound_k
 returns-2 c = let s = c.before.before in rw (le-ltb s.args.len s.args.beam c.before.if1.false) refl
 
-pub bound-of-spec : {M : Type 1} → statement M
-bound-of-spec = tie.close (tie.spec returns sub-last mul-result shared-slice-read-result mul-result-2 returns-2)
+pub bound_of_spec : {M : Type 1} → statement M
+bound_of_spec = tie.close (tie.spec returns sub-last mul-result shared-slice-read-result mul-result-2 returns-2)

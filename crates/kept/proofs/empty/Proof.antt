@@ -3,17 +3,17 @@ use mathlib.Core.Path.{refl}
 use native.Mathlib.Omega.{arith}
 use borrow.Author.Tests.{lt-ltb, le-ltb}
 use Rattle.definition.specs.Beam.{worst}
-use Rattle.kept.specs.Says.{boundOf}
+use Rattle.kept.specs.Says.{bound_of}
 use Rattle.kept.proofs.empty.Statement.{statement}
 use Rattle.kept.proofs.empty.Tie as tie
 
 returns : tie.Need-returns
-unfolding boundOf worst
+unfolding bound_of worst
 returns c = rw (le-ltb 0 c.before.args.beam (omega arith)) refl
 
 returns-2 : tie.Need-returns-2
-unfolding boundOf worst
+unfolding bound_of worst
 returns-2 c = rw (lt-ltb 0 c.before.args.beam (omega arith)) refl
 
-pub empty-spec : {M : Type 1} → statement M
-empty-spec = tie.close (tie.spec returns returns-2)
+pub empty_spec : {M : Type 1} → statement M
+empty_spec = tie.close (tie.spec returns returns-2)

@@ -1,17 +1,17 @@
--- `halts`. Each return is a case of the stop, as the definition of `haltsK` tests it.
+-- `halts`. Each return is a case of the stop, as the definition of `halts_k` tests it.
 use mathlib.Core.Path.{refl}
 use borrow.Author.Rules.{rules}
 use borrow.Author.Tests.{lt-ltb, le-ltb, le-leb, lt-leb}
-use Rattle.kept.specs.Says.{haltsK}
+use Rattle.kept.specs.Says.{halts_k}
 use Rattle.kept.proofs.halts.Statement.{statement}
 use Rattle.kept.proofs.halts.Tie as tie
 
 returns : tie.Need-returns
-unfolding haltsK
+unfolding halts_k
 returns c = let a = c.before.before.before.args in rw (le-leb a.w.len a.d c.if1.true) refl
 
 returns-2 : tie.Need-returns-2
-unfolding haltsK
+unfolding halts_k
 returns-2 c =
     let a = c.before.before.before.before.before.args in
     rw (lt-leb a.w.len a.d c.before.before.if1.false, lt-ltb a.w.len a.beam c.if2.true) refl
@@ -38,7 +38,7 @@ dist-of-requires-2 : tie.Need-dist-of-requires-2
 dist-of-requires-2 c κs = search rules
 
 returns-3 : tie.Need-returns-3
-unfolding haltsK
+unfolding halts_k
 returns-3 c =
     let o = c.before.before.before.before.before in
     let a = o.before.before.before.before.before.args in
@@ -49,8 +49,8 @@ returns-3 c =
       le-ltb a.w.len a.beam o.if2.false,
     ) refl
 
-pub halts-spec : {M : Type 1} → statement M
-halts-spec =
+pub halts_spec : {M : Type 1} → statement M
+halts_spec =
     tie.close
     (tie.spec
     returns

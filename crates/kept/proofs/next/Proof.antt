@@ -48,8 +48,8 @@ returns-2 c =
     let l = c.before.before.before.before.loop in
     record { from = omega arith; to = omega arith; walked = l.invariant.2; odd = λ h. omega (arith, c.if2.true) }
 
-pub next-spec : {M : Type 1} → statement M
-next-spec =
+pub next_spec : {M : Type 1} → statement M
+next_spec =
     tie.close
     (tie.spec
     invariant-loop

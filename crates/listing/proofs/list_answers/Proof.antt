@@ -2,8 +2,8 @@
 use Rattle.std.proofs.Common.{◌-◌, min, arith, rules}
 use Rattle.definition.specs.Search.{ranked}
 use Rattle.listing.specs.Listed.{pairs, items_in, ListedTo}
-use Rattle.listing.proofs.Copying.{listed-none, listed_at, listed-all}
-use Rattle.listing.proofs.Turning.{Parts, parts-end, ranked-length, ranked-at}
+use Rattle.listing.proofs.Copying.{listed-none, listed_at, listed_all}
+use Rattle.listing.proofs.Turning.{Parts, parts_end, ranked_length, ranked_at}
 use Rattle.listing.proofs.list_answers.Statement.{statement}
 use Rattle.listing.proofs.list_answers.Tie as tie
 
@@ -38,29 +38,29 @@ loop-again c =
     let s = l.before.before.before.before in
     let a = s.args in
     let up = s.requires.0 in
-    let size = ranked-length a.keys.now a.len up (omega arith) a.count (omega arith) in (
-      parts-end a.keys.now a.len up (omega arith) run,
+    let size = ranked_length a.keys.now a.len up (omega arith) a.count (omega arith) in (
+      parts_end a.keys.now a.len up (omega arith) run,
       listed_at least.least.ensures
           (listed.list-run.ensures.goes_on (ranked a.count (items_in a.keys.now a.len)) (pairs a.ids.now a.dists.now)
-          (λ i h k. ranked-at a.keys.now a.len up (omega arith) a.count (omega arith) l.loop.invariant.0 run i h (omega arith) (omega arith))
+          (λ i h k. ranked_at a.keys.now a.len up (omega arith) a.count (omega arith) l.loop.invariant.0 run i h (omega arith) (omega arith))
           (omega arith) (omega arith) (omega arith) (listed_at (omega arith) l.loop.invariant.1)),
     )
 
 same_length : tie.Need-same-length invariant-loop decreases-loop
-same_length c = c.before.loop.invariant.1.ids-size
+same_length c = c.before.loop.invariant.1.ids_size
 
 same-length-2 : tie.Need-same-length-2 invariant-loop decreases-loop
-same-length-2 c = c.before.loop.invariant.1.dists-size
+same-length-2 c = c.before.loop.invariant.1.dists_size
 
 returns : tie.Need-returns invariant-loop decreases-loop
 returns c =
     let s = c.before.before.before.before.before in
     let a = s.args in
-    listed-all _ _ _ a.count (listed_at (omega arith) c.before.loop.invariant.1)
-    (ranked-length a.keys.now a.len s.requires.0 (omega arith) a.count (omega arith))
+    listed_all _ _ _ a.count (listed_at (omega arith) c.before.loop.invariant.1)
+    (ranked_length a.keys.now a.len s.requires.0 (omega arith) a.count (omega arith))
 
-pub list-answers-spec : {M : Type 1} → statement M
-list-answers-spec =
+pub list_answers_spec : {M : Type 1} → statement M
+list_answers_spec =
     tie.close
     (tie.spec
     invariant-loop

@@ -4,14 +4,14 @@ use lib.ListN.{length-map}
 use Rattle.definition.specs.Metric.{whole}
 use Rattle.definition.specs.Beam.{Item, nobody}
 use Rattle.laws.specs.Mapped.{map_at}
-use Rattle.listing.specs.Listed.{pairs, mirroredItem, ListedTo}
-use Rattle.listing.proofs.Copying.{listed-none, listed_more, listed-all}
+use Rattle.listing.specs.Listed.{pairs, mirrored_item, ListedTo}
+use Rattle.listing.proofs.Copying.{listed-none, listed_more, listed_all}
 use Rattle.listing.proofs.list_mirrored.Statement.{statement}
 use Rattle.listing.proofs.list_mirrored.Tie as tie
 
 abbrev invariant-loop : tie.invariant-loop
 invariant-loop keys n count ids₀ dists₀ last i₀ ids dists i =
-    (i ≤ count) × ListedTo i (map (mirroredItem n) (take count keys)) (pairs ids₀ dists₀) (pairs ids dists)
+    (i ≤ count) × ListedTo i (map (mirrored_item n) (take count keys)) (pairs ids₀ dists₀) (pairs ids dists)
 
 abbrev decreases-loop : tie.decreases-loop
 decreases-loop keys n count ids₀ dists₀ last i₀ ids dists i = count - i
@@ -66,7 +66,7 @@ unfolding whole
 loop-again c =
     let l = c.before.before.before.before.before in
     let a = l.before.before.before.before.args in
-    let told = mirroredItem a.n in
+    let told = mirrored_item a.n in
     let keys = take a.count a.keys.now in
     let size = length-take-le a.count a.keys.now (omega arith) in
     let at : get_or (map told keys) l.loop.i nobody ≡ told (get_or a.keys.now l.loop.i 0) =
@@ -78,19 +78,19 @@ loop-again c =
     )
 
 same_length : tie.Need-same-length invariant-loop decreases-loop
-same_length c = c.before.loop.invariant.1.ids-size
+same_length c = c.before.loop.invariant.1.ids_size
 
 same-length-2 : tie.Need-same-length-2 invariant-loop decreases-loop
-same-length-2 c = c.before.loop.invariant.1.dists-size
+same-length-2 c = c.before.loop.invariant.1.dists_size
 
 returns : tie.Need-returns invariant-loop decreases-loop
 returns c =
     let a = c.before.before.before.before.before.args in
-    listed-all _ _ _ _ c.before.loop.invariant.1
-    (length-map (take a.count a.keys.now) (mirroredItem a.n) ∙ length-take-le a.count a.keys.now (omega arith) ∙ omega arith)
+    listed_all _ _ _ _ c.before.loop.invariant.1
+    (length-map (take a.count a.keys.now) (mirrored_item a.n) ∙ length-take-le a.count a.keys.now (omega arith) ∙ omega arith)
 
-pub list-mirrored-spec : {M : Type 1} → statement M
-list-mirrored-spec =
+pub list_mirrored_spec : {M : Type 1} → statement M
+list_mirrored_spec =
     tie.close
     (tie.spec
     invariant-loop

@@ -86,8 +86,8 @@ returns c =
     let e : l.i ≡ a.last = omega arith in
     subst (λ (i : ℕ). RunListed a.keys.now a.first a.end i (pairs a.ids.now a.dists.now) (pairs l.ids l.dists)) e l.invariant.4
 
-pub list-run-spec : {M : Type 1} → statement M
-list-run-spec =
+pub list_run_spec : {M : Type 1} → statement M
+list_run_spec =
     tie.close
     (tie.spec
     invariant-loop

@@ -76,8 +76,8 @@ returns-2 c =
       ends = λ h e. c.if1.true (c.before.dist-of2.ensures ∙ e ∙ sym l.before.dist-of.ensures);
     }
 
-pub run-end-spec : {M : Type 1} → statement M
-run-end-spec =
+pub run_end_spec : {M : Type 1} → statement M
+run_end_spec =
     tie.close
     (tie.spec
     invariant-loop

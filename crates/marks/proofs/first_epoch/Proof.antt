@@ -4,7 +4,7 @@ use Prim.Native.Nat.{zero-le}
 use native.Mathlib.Nat.{zero-add}
 use native.Mathlib.Omega.{arith}
 use borrow.Author.Rules.{rules}
-use Rattle.scratch.specs.Zeroed.{zeroed-within, zeroed-at}
+use Rattle.scratch.specs.Zeroed.{zeroed_within, zeroed_at}
 use Rattle.marks.proofs.first_epoch.Statement.{statement}
 use Rattle.marks.proofs.first_epoch.Tie as tie
 
@@ -31,12 +31,12 @@ returns c =
     let zeros = k.clear-words.ensures in
     record {
       is = refl;
-      marks = λ i h. omega (arith, rw (zero-add i) at (zeroed-at 0 n s.args.words.now zero-le s.requires zeros i (omega arith)));
-      kept = zeroed-within 0 n s.args.words.now zero-le s.requires zeros;
+      marks = λ i h. omega (arith, rw (zero-add i) at (zeroed_at 0 n s.args.words.now zero-le s.requires zeros i (omega arith)));
+      kept = zeroed_within 0 n s.args.words.now zero-le s.requires zeros;
     }
 
-pub first-epoch-spec : {M : Type 1} → statement M
-first-epoch-spec =
+pub first_epoch_spec : {M : Type 1} → statement M
+first_epoch_spec =
     tie.close
     (tie.spec
     sub-clear-words

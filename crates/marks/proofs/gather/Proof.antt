@@ -5,7 +5,7 @@ use native.Mathlib.Omega.{arith}
 use lib.ListN.{length, take}
 use borrow.Author.Rules.{rules}
 use Rattle.marks.specs.Marked.{Gathers}
-use Rattle.marks.proofs.Noting.{gather_none, gather-more, gather-fits, gather-end}
+use Rattle.marks.proofs.Noting.{gather_none, gather_more, gather_fits, gather_end}
 use Rattle.marks.proofs.gather.Statement.{statement}
 use Rattle.marks.proofs.gather.Tie as tie
 
@@ -30,7 +30,7 @@ note-requires c κs =
     let l = c.before.before.before.before in
     let s = l.before.before.before.before in
     let g = l.loop.invariant.2 in
-    (g.marked, omega (arith, s.requires.1, gather-fits s.args.row.now l.loop.k g (omega arith)))
+    (g.marked, omega (arith, s.requires.1, gather_fits s.args.row.now l.loop.k g (omega arith)))
 
 add-k : tie.Need-overflow-add-k invariant-loop decreases-loop
 add-k c = search rules
@@ -44,8 +44,8 @@ loop-again c =
     let l = n.before.before.before.before.before in
     let s = l.before.before.before.before in
     let g = l.loop.invariant.2 in
-    let fits = gather-fits s.args.row.now l.loop.k g (omega arith) in
-    (omega arith, search rules, gather-more s.args.row.now l.loop.k g (omega arith) (omega arith) n.note.ensures)
+    let fits = gather_fits s.args.row.now l.loop.k g (omega arith) in
+    (omega arith, search rules, gather_more s.args.row.now l.loop.k g (omega arith) (omega arith) n.note.ensures)
 
 same_length : tie.Need-same-length invariant-loop decreases-loop
 same_length c = search rules
@@ -54,10 +54,10 @@ same-length-2 : tie.Need-same-length-2 invariant-loop decreases-loop
 same-length-2 c = search rules
 
 returns : tie.Need-returns invariant-loop decreases-loop
-returns c = let l = c.before in gather-end _ l.loop.k l.loop.invariant.2 (omega arith)
+returns c = let l = c.before in gather_end _ l.loop.k l.loop.invariant.2 (omega arith)
 
-pub gather-spec : {M : Type 1} → statement M
-gather-spec =
+pub gather_spec : {M : Type 1} → statement M
+gather_spec =
     tie.close
     (tie.spec
     invariant-loop

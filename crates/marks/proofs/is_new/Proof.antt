@@ -12,5 +12,5 @@ returns c = (sym (ap (λ (t : Bool). cond t 0 1) (eq-eqb _ _ c.if1.true)), omega
 returns-2 : tie.Need-returns-2
 returns-2 c = (sym (ap (λ (t : Bool). cond t 0 1) (ne_eqb _ _ c.if1.false)), omega arith)
 
-pub is-new-spec : {M : Type 1} → statement M
-is-new-spec = tie.close (tie.spec returns returns-2)
+pub is_new_spec : {M : Type 1} → statement M
+is_new_spec = tie.close (tie.spec returns returns-2)

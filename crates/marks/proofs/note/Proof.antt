@@ -43,8 +43,8 @@ same-length-2 c = search rules
 returns : tie.Need-returns
 returns c = noted _ _ _ c.before.before.mark_of.ensures c.is-new.ensures.0
 
-pub note-spec : {M : Type 1} → statement M
-note-spec =
+pub note_spec : {M : Type 1} → statement M
+note_spec =
     tie.close
     (tie.spec
     mark-of-requires

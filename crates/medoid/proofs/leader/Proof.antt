@@ -5,7 +5,7 @@ use native.Mathlib.Omega.{arith}
 use borrow.Author.Rules.{rules}
 use Rattle.definition.specs.Metric.{between}
 use Rattle.definition.specs.Medoid.{score, medoid}
-use Rattle.medoid.specs.Turns.{Leading, lead-start, lead-taken, lead-kept, lead-end}
+use Rattle.medoid.specs.Turns.{Leading, lead_start, lead_taken, lead_kept, lead_end}
 use Rattle.medoid.proofs.leader.Statement.{statement}
 use Rattle.medoid.proofs.leader.Tie as tie
 
@@ -19,7 +19,7 @@ score-requires : tie.Need-score-requires invariant-loop decreases-loop
 score-requires c κs = search rules
 
 loop-holds : tie.Need-loop-init invariant-loop decreases-loop
-loop-holds c = lead-start _ _ _ _ c.before.before.before.requires.0 c.score.ensures
+loop-holds c = lead_start _ _ _ _ c.before.before.before.requires.0 c.score.ensures
 
 score-requires-2 : tie.Need-score-requires-2 invariant-loop decreases-loop
 score-requires-2 c κs = search rules
@@ -35,15 +35,15 @@ loop-again c =
     let more = c.before.before.loop-test.true in
     let leads = c.before.before.before.loop.invariant in
     ⊎_elim
-    (λ w. rw (w.1, w.2) (lead-taken _ _ _ _ _ _ _ more c.before.score2.ensures leads w.0.taken))
-    (λ w. rw (w.1, w.2) (lead-kept _ _ _ _ _ _ _ more c.before.score2.ensures leads w.0.left))
+    (λ w. rw (w.1, w.2) (lead_taken _ _ _ _ _ _ _ more c.before.score2.ensures leads w.0.taken))
+    (λ w. rw (w.1, w.2) (lead_kept _ _ _ _ _ _ _ more c.before.score2.ensures leads w.0.left))
     c.if1.branch
 
 returns : tie.Need-returns invariant-loop decreases-loop
-returns c = (lead-end _ _ _ _ _ _ c.loop-test.false c.before.loop.invariant, c.before.loop.invariant.inside)
+returns c = (lead_end _ _ _ _ _ _ c.loop-test.false c.before.loop.invariant, c.before.loop.invariant.inside)
 
-pub leader-spec : {M : Type 1} → statement M
-leader-spec =
+pub leader_spec : {M : Type 1} → statement M
+leader_spec =
     tie.close
     (tie.spec
     invariant-loop

@@ -5,15 +5,15 @@ use native.Mathlib.Omega.{arith}
 use borrow.Author.Rules.{rules}
 use lib.ListN.{length, drop}
 use Rattle.definition.specs.Metric.{between, whole}
-use Rattle.definition.specs.Medoid.{scoreFrom, score}
+use Rattle.definition.specs.Medoid.{score_from, score}
 use Rattle.definition.specs.Floats.{nought}
-use Rattle.metric.specs.Laws.{exact-in-float, vector-in}
-use Rattle.medoid.specs.Turns.{score-start, score-turn, score-end}
+use Rattle.metric.specs.Laws.{exact_in_float, vector_in}
+use Rattle.medoid.specs.Turns.{score-start, score-turn, score_end}
 use Rattle.medoid.proofs.score.Statement.{statement}
 use Rattle.medoid.proofs.score.Tie as tie
 
 abbrev invariant-loop : tie.invariant-loop
-invariant-loop n dim vectors pivots i total₀ j₀ total j = scoreFrom (between dim vectors i) total (drop j pivots) ≡ score (between dim vectors) pivots i
+invariant-loop n dim vectors pivots i total₀ j₀ total j = score_from (between dim vectors i) total (drop j pivots) ≡ score (between dim vectors) pivots i
 
 abbrev decreases-loop : tie.decreases-loop
 decreases-loop n dim vectors pivots i total₀ j₀ total j = length pivots - j
@@ -34,10 +34,10 @@ cast-p c = record { fits = omega (arith, (c.shared-slice-known3.given c.before.b
 between-requires : tie.Need-between-requires invariant-loop decreases-loop
 between-requires c κs =
     let p = c.before.before.before.before.before.requires in
-    (vector-in _ _ _ _ p.1 p.2, (vector-in _ _ _ _ p.1 (p.3 _ c.before.loop-test.true), p.0))
+    (vector_in _ _ _ _ p.1 p.2, (vector_in _ _ _ _ p.1 (p.3 _ c.before.loop-test.true), p.0))
 
 int-to-float-total : tie.Need-int-to-float-total invariant-loop decreases-loop
-int-to-float-total c = exact-in-float _ _ c.before.between.ensures
+int-to-float-total c = exact_in_float _ _ c.before.between.ensures
 
 add-j : tie.Need-overflow-add-j invariant-loop decreases-loop
 add-j c = search rules
@@ -52,10 +52,10 @@ loop-again c =
     score-turn _ _ _ _ _ _ t.loop-test.true c.before.between.ensures.is t.before.loop.invariant
 
 returns : tie.Need-returns invariant-loop decreases-loop
-returns c = score-end _ _ _ _ _ c.loop-test.false c.before.loop.invariant
+returns c = score_end _ _ _ _ _ c.loop-test.false c.before.loop.invariant
 
-pub score-spec : {M : Type 1} → statement M
-score-spec =
+pub score_spec : {M : Type 1} → statement M
+score_spec =
     tie.close
     (tie.spec
     invariant-loop

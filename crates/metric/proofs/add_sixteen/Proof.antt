@@ -7,7 +7,7 @@ use native.Mathlib.Omega.{arith}
 use lib.ListN.{get_or, set, drop}
 use Rattle.definition.specs.Lists.{total}
 use Rattle.definition.specs.Metric.{metric}
-use Rattle.metric.specs.Stretches.{Sixteen, adds_one, total-more, sum-total, sixteen-more}
+use Rattle.metric.specs.Stretches.{Sixteen, adds_one, total_more, sum-total, sixteen_more}
 use borrow.Author.Rules.{rules}
 use Rattle.metric.proofs.add_sixteen.Statement.{statement}
 use Rattle.metric.proofs.add_sixteen.Tie as tie
@@ -36,7 +36,7 @@ turn c =
     let p = s.requires.0 in
     let one = adds_one s.args.a.now s.args.b.now k p.alike (omega (arith, p.inside)) in
     rw (← add_assoc s.args.at l.loop.j 1)
-    (sixteen-more _ _ k _ l.loop.sums l.loop.j _ l.loop.invariant.1 (omega arith) (rw c.squared.ensures one))
+    (sixteen_more _ _ k _ l.loop.sums l.loop.j _ l.loop.invariant.1 (omega arith) (rw c.squared.ensures one))
 
 loop-holds : tie.Need-loop-init invariant-loop decreases-loop
 loop-holds c = let s = c.before.before in (search rules, rw (add-zero s.args.at) (record { sixteen = s.requires.1.0; is = refl }))
@@ -63,7 +63,7 @@ add-sums : tie.Need-overflow-add-sums invariant-loop decreases-loop
 add-sums c =
     let l = c.before.before.before.before.before in
     let t = turn c in
-    let more = total-more l.loop.sums l.loop.j c.squared.result (omega (arith, l.loop.invariant.1.sixteen)) in
+    let more = total_more l.loop.sums l.loop.j c.squared.result (omega (arith, l.loop.invariant.1.sixteen)) in
     let least = sum-total l.loop.sums l.loop.j in
     omega (arith, t.is, l.before.before.before.requires.1.1)
 
@@ -90,8 +90,8 @@ returns c =
     let d = all s.args.a.now s.args.b.now s.args.at s.args.sums.now in
     subst (λ (k : ℕ). Sixteen s.args.a.now s.args.b.now k d l.loop.sums) at l.loop.invariant.1
 
-pub add-sixteen-spec : {M : Type 1} → statement M
-add-sixteen-spec =
+pub add_sixteen_spec : {M : Type 1} → statement M
+add_sixteen_spec =
     tie.close
     (tie.spec
     invariant-loop

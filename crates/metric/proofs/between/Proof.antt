@@ -1,6 +1,6 @@
 -- `between`.
 use native.Mathlib.Nat.{add-sub_cancel_left}
-use Rattle.definition.specs.Metric.{between, fromQuery, vector}
+use Rattle.definition.specs.Metric.{between, from_query, vector}
 use borrow.Author.Rules.{rules}
 use Rattle.metric.proofs.between.Statement.{statement}
 use Rattle.metric.proofs.between.Tie as tie
@@ -27,11 +27,11 @@ from-query-requires : tie.Need-from-query-requires
 from-query-requires c κs = search rules
 
 returns : tie.Need-returns
-unfolding between fromQuery vector
+unfolding between from_query vector
 returns c = rw (add-sub_cancel_left) at c.from-query.ensures
 
-pub between-spec : {M : Type 1} → statement M
-between-spec =
+pub between_spec : {M : Type 1} → statement M
+between_spec =
     tie.close
     (tie.spec
     mul_at

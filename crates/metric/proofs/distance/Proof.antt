@@ -3,8 +3,8 @@ use mathlib.Core.Path.{sym, ap, ◌∙◌}
 use Prim.Native.Nat.{ℕ}
 use Rattle.definition.specs.Metric.{whole}
 use Rattle.definition.specs.Outcome.{answer}
-use Rattle.metric.specs.Laws.{exact-in-float}
-use Rattle.metric.specs.Cases.{distance_none, distance-long, distance-unequal, distance-done}
+use Rattle.metric.specs.Laws.{exact_in_float}
+use Rattle.metric.specs.Cases.{distance_none, distance_long, distance_unequal, distance_done}
 use borrow.Author.Rules.{rules}
 use Rattle.metric.proofs.distance.Statement.{statement}
 use Rattle.metric.proofs.distance.Tie as tie
@@ -24,19 +24,19 @@ refused-requires-2 : tie.Need-refused-requires-2
 refused-requires-2 c κs = search rules
 
 returns-2 : tie.Need-returns-2
-returns-2 c = c.refused2.ensures ∙ sym (distance-long _ _ c.before.if2.true)
+returns-2 c = c.refused2.ensures ∙ sym (distance_long _ _ c.before.if2.true)
 
 refused-requires-3 : tie.Need-refused-requires-3
 refused-requires-3 c κs = search rules
 
 returns-3 : tie.Need-returns-3
-returns-3 c = c.refused3.ensures ∙ sym (distance-unequal _ _ c.before.before.before.if1.false c.before.before.if2.false c.before.if3.true)
+returns-3 c = c.refused3.ensures ∙ sym (distance_unequal _ _ c.before.before.before.if1.false c.before.before.if2.false c.before.if3.true)
 
 summed-requires : tie.Need-summed-requires
 summed-requires c κs = search rules
 
 int-to-float-measured : tie.Need-int-to-float-measured
-int-to-float-measured c = exact-in-float _ _ c.before.summed.ensures
+int-to-float-measured c = exact_in_float _ _ c.before.summed.ensures
 
 measured-requires : tie.Need-measured-requires
 measured-requires c κs = search rules
@@ -46,10 +46,10 @@ unfolding whole
 returns-4 c =
     let s = c.before.before in
     c.measured.ensures ∙ ap (λ (n : ℕ). answer 0 0 0 0 (whole n)) s.summed.ensures.is
-    ∙ sym (distance-done _ _ s.before.before.before.if1.false s.before.before.if2.false s.before.if3.false)
+    ∙ sym (distance_done _ _ s.before.before.before.if1.false s.before.before.if2.false s.before.if3.false)
 
-pub distance-spec : {M : Type 1} → statement M
-distance-spec =
+pub distance_spec : {M : Type 1} → statement M
+distance_spec =
     tie.close
     (tie.spec
     refused-requires

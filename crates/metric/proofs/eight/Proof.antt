@@ -4,7 +4,7 @@ use Prim.Native.Nat.{ℕ, ◌+◌, ◌-◌, ◌≤◌}
 use native.Mathlib.Nat.{add-zero, add_assoc}
 use native.Mathlib.Omega.{arith}
 use borrow.Author.Rules.{rules}
-use Rattle.metric.specs.Stretches.{Adds, adds_none, adds_one, adds-join, adds-small}
+use Rattle.metric.specs.Stretches.{Adds, adds_none, adds_one, adds_join, adds_small}
 use Rattle.metric.proofs.eight.Statement.{statement}
 use Rattle.metric.proofs.eight.Tie as tie
 
@@ -24,7 +24,7 @@ turn c =
     let one = adds_one s.args.a.now s.args.b.now k s.requires.alike (omega (arith, s.requires.inside)) in
     let more = subst (λ (r : ℕ). Adds s.args.a.now s.args.b.now k (k + 1) r) (sym c.squared.ensures) one in
     rw (← add_assoc s.args.at l.loop.j 1)
-    (adds-join _ _ s.args.at k (k + 1) l.loop.sum c.squared.result l.loop.invariant.1 more)
+    (adds_join _ _ s.args.at k (k + 1) l.loop.sum c.squared.result l.loop.invariant.1 more)
 
 loop-holds : tie.Need-loop-init invariant-loop decreases-loop
 loop-holds c = let s = c.before.before in (search rules, rw (add-zero s.args.at) (adds_none _ _ s.args.at))
@@ -47,7 +47,7 @@ add-sum c =
     let known = l.before in
     omega (
       arith,
-      adds-small _ _ _ _ _ (λ k. (known.before.shared-slice-known.given k).fits) (λ k. (known.shared-slice-known2.given k).fits)
+      adds_small _ _ _ _ _ (λ k. (known.before.shared-slice-known.given k).fits) (λ k. (known.shared-slice-known2.given k).fits)
           known.before.before.requires.few (turn c),
     )
 
@@ -67,8 +67,8 @@ returns c =
     let at : s.args.at + l.loop.j ≡ s.args.at + 8 = omega (arith, l.loop.invariant.0, c.loop-test.false) in
     subst (λ (k : ℕ). Adds s.args.a.now s.args.b.now s.args.at k l.loop.sum) at l.loop.invariant.1
 
-pub eight-spec : {M : Type 1} → statement M
-eight-spec =
+pub eight_spec : {M : Type 1} → statement M
+eight_spec =
     tie.close
     (tie.spec
     invariant-loop

@@ -3,7 +3,7 @@ use mathlib.Core.Path.{◌≡◌, sym, subst}
 use Prim.Native.Nat.{ℕ, ◌+◌, ◌-◌, ◌≤◌}
 use native.Mathlib.Omega.{arith}
 use borrow.Author.Rules.{rules}
-use Rattle.metric.specs.Stretches.{Adds, adds_none, adds_one, adds-join, adds-small}
+use Rattle.metric.specs.Stretches.{Adds, adds_none, adds_one, adds_join, adds_small}
 use Rattle.metric.proofs.few.Statement.{statement}
 use Rattle.metric.proofs.few.Tie as tie
 
@@ -22,7 +22,7 @@ turn c =
     let i = l.loop.i in
     let one = adds_one s.args.a.now s.args.b.now i s.requires.alike (omega (arith, s.requires.inside)) in
     let more = subst (λ (r : ℕ). Adds s.args.a.now s.args.b.now i (i + 1) r) (sym c.squared-alone.ensures) one in
-    adds-join _ _ s.args.from i (i + 1) l.loop.sum c.squared-alone.result l.loop.invariant.1 more
+    adds_join _ _ s.args.from i (i + 1) l.loop.sum c.squared-alone.result l.loop.invariant.1 more
 
 loop-holds : tie.Need-loop-init invariant-loop decreases-loop
 loop-holds c = (search rules, adds_none _ _ _)
@@ -41,7 +41,7 @@ add-sum c =
     let l = c.before.before.before.before in
     let known = l.before.before.shared-slice-known in
     let known2 = l.before.shared-slice-known2 in
-    omega (arith, adds-small _ _ _ _ _ (λ k. (known.given k).fits) (λ k. (known2.given k).fits) l.before.before.before.requires.few (turn c))
+    omega (arith, adds_small _ _ _ _ _ (λ k. (known.given k).fits) (λ k. (known2.given k).fits) l.before.before.before.requires.few (turn c))
 
 add-i : tie.Need-overflow-add-i invariant-loop decreases-loop
 add-i c = search rules
@@ -59,8 +59,8 @@ returns c =
     let at : l.loop.i ≡ s.args.to = omega (arith, l.loop.invariant.0, c.loop-test.false) in
     subst (λ (i : ℕ). Adds s.args.a.now s.args.b.now s.args.from i l.loop.sum) at l.loop.invariant.1
 
-pub few-spec : {M : Type 1} → statement M
-few-spec =
+pub few_spec : {M : Type 1} → statement M
+few_spec =
     tie.close
     (tie.spec
     invariant-loop

@@ -1,6 +1,6 @@
 -- `from_query`.
 use native.Mathlib.Nat.{add-sub_cancel_left}
-use Rattle.definition.specs.Metric.{fromQuery, vector}
+use Rattle.definition.specs.Metric.{from_query, vector}
 use borrow.Author.Rules.{rules}
 use Rattle.metric.proofs.from_query.Statement.{statement}
 use Rattle.metric.proofs.from_query.Tie as tie
@@ -27,10 +27,10 @@ summed-requires : tie.Need-summed-requires
 summed-requires c κs = search rules
 
 returns : tie.Need-returns
-unfolding fromQuery vector
+unfolding from_query vector
 returns c = rw (add-sub_cancel_left) at c.summed.ensures
 
-pub from-query-spec : {M : Type 1} → statement M
-from-query-spec =
+pub from_query_spec : {M : Type 1} → statement M
+from_query_spec =
     tie.close
     (tie.spec mul_at add-end sub-summed part-summed-start part-summed-end summed-requires returns)

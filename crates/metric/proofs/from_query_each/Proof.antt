@@ -3,8 +3,8 @@ use Prim.Native.Nat.{ℕ, ◌-◌}
 use native.Mathlib.Omega.{arith}
 use lib.ListN.{length}
 use borrow.Author.Rules.{rules}
-use Rattle.definition.specs.Metric.{fromQuery}
-use Rattle.metric.proofs.Each.{Measured, measured-none, measured-more, measured-all}
+use Rattle.definition.specs.Metric.{from_query}
+use Rattle.metric.proofs.Each.{Measured, measured_none, measured_more, measured_all}
 use Rattle.metric.proofs.from_query_each.Statement.{statement}
 use Rattle.metric.proofs.from_query_each.Tie as tie
 use Rattle.metric.proofs.from_query_each.Reads as reads
@@ -12,17 +12,17 @@ use Rattle.metric.proofs.from_query_each.Lts as lts
 use Rattle.metric.proofs.from_query.Reads as from-query-reads
 
 abbrev invariant-loop : tie.invariant-loop
-invariant-loop dim vectors query ids dists₀ k₀ dists k = Measured (fromQuery dim vectors query) ids dists k
+invariant-loop dim vectors query ids dists₀ k₀ dists k = Measured (from_query dim vectors query) ids dists k
 
 abbrev decreases-loop : tie.decreases-loop
 decreases-loop dim vectors query ids dists₀ k₀ dists k = length ids - k
 
 -- how far an entry is from the query
 abbrev far : tie.Start invariant-loop decreases-loop → ℕ → ℕ
-far s = fromQuery s.args.dim s.args.vectors.now s.args.query.now
+far s = from_query s.args.dim s.args.vectors.now s.args.query.now
 
 loop-holds : tie.Need-loop-init invariant-loop decreases-loop
-loop-holds c = let s = c.before.before.before.before in measured-none (far s) _ _ s.requires.1.1
+loop-holds c = let s = c.before.before.before.before in measured_none (far s) _ _ s.requires.1.1
 
 mul-from-query : tie.Need-overflow-mul-from-query invariant-loop decreases-loop
 mul-from-query c = search rules
@@ -55,7 +55,7 @@ loop-again : tie.Need-loop-preserved invariant-loop decreases-loop
 loop-again c =
     let l = c.before.before.before in
     let s = l.before.before.before.before.before in
-    measured-more (far s) _ _ l.loop.k l.loop.invariant (omega arith) _ c.from-query.ensures
+    measured_more (far s) _ _ l.loop.k l.loop.invariant (omega arith) _ c.from-query.ensures
 
 same_length : tie.Need-same-length invariant-loop decreases-loop
 same_length c = search rules
@@ -64,10 +64,10 @@ returns : tie.Need-returns invariant-loop decreases-loop
 returns c =
     let l = c.before in
     let s = l.before.before.before.before.before in
-    measured-all (far s) _ _ l.loop.k l.loop.invariant (omega arith)
+    measured_all (far s) _ _ l.loop.k l.loop.invariant (omega arith)
 
-pub from-query-each-spec : {M : Type 1} → statement M
-from-query-each-spec =
+pub from_query_each_spec : {M : Type 1} → statement M
+from_query_each_spec =
     tie.close
     (tie.spec
     invariant-loop

@@ -12,5 +12,5 @@ returns-2 : tie.Need-returns-2
 unfolding saturated
 returns-2 c = rw (ne_eqb c.before.args.high 255 c.if1.false)
 
-pub ground-spec : {M : Type 1} → statement M
-ground-spec = tie.close (tie.spec returns returns-2)
+pub ground_spec : {M : Type 1} → statement M
+ground_spec = tie.close (tie.spec returns returns-2)

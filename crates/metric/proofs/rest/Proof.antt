@@ -2,7 +2,7 @@
 use Prim.Native.Nat.{◌+◌}
 use native.Mathlib.Omega.{arith}
 use borrow.Author.Rules.{rules}
-use Rattle.metric.specs.Stretches.{Adds, adds-join, adds-small}
+use Rattle.metric.specs.Stretches.{Adds, adds_join, adds_small}
 use Rattle.metric.proofs.rest.Statement.{statement}
 use Rattle.metric.proofs.rest.Tie as tie
 
@@ -11,7 +11,7 @@ all : (c : tie.After-few2) → let s = c.before.before.before.before.before in
     Adds s.args.a.now s.args.b.now s.args.from s.args.to (c.before.eight.result + c.few2.result)
 all c =
     let s = c.before.before.before.before.before in
-    adds-join _ _ s.args.from (s.args.from + 8) s.args.to _ _ c.before.eight.ensures c.few2.ensures
+    adds_join _ _ s.args.from (s.args.from + 8) s.args.to _ _ c.before.eight.ensures c.few2.ensures
 
 sub-if1 : tie.Need-overflow-sub-if1
 sub-if1 c = search rules
@@ -36,12 +36,12 @@ add-result c =
     let known = c.before.before.before in
     omega (
       arith,
-      adds-small _ _ _ _ _ (λ k. (known.before.shared-slice-known.given k).fits) (λ k. (known.shared-slice-known2.given k).fits)
+      adds_small _ _ _ _ _ (λ k. (known.before.shared-slice-known.given k).fits) (λ k. (known.shared-slice-known2.given k).fits)
           known.before.before.requires.few (all c),
     )
 
 returns-2 : tie.Need-returns-2
 returns-2 c = all c
 
-pub rest-spec : {M : Type 1} → statement M
-rest-spec = tie.close (tie.spec sub-if1 few-requires returns add-middle eight-requires few-requires-2 add-result returns-2)
+pub rest_spec : {M : Type 1} → statement M
+rest_spec = tie.close (tie.spec sub-if1 few-requires returns add-middle eight-requires few-requires-2 add-result returns-2)

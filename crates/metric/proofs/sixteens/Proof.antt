@@ -8,7 +8,7 @@ use borrow.Author.Rules.{rules}
 use Rattle.definition.specs.Lists.{total}
 use Rattle.definition.specs.Metric.{metric}
 use Rattle.whole.specs.Whole.{farthest}
-use Rattle.metric.specs.Stretches.{Adds, Sixteen, sixteen-none, sixteen-adds, from-small}
+use Rattle.metric.specs.Stretches.{Adds, Sixteen, sixteen_none, sixteen_adds, from_small}
 use Rattle.metric.proofs.sixteens.Statement.{statement}
 use Rattle.metric.proofs.sixteens.Tie as tie
 
@@ -23,10 +23,10 @@ small : (c : tie.After-shared-slice-known2 invariant-loop decreases-loop) → le
     metric (drop s.args.from s.args.a.now) (drop s.args.from s.args.b.now) ≤ farthest
 small c =
     let s = c.before.before in
-    from-small _ _ s.args.from (λ k. (c.before.shared-slice-known.given k).fits) (λ k. (c.shared-slice-known2.given k).fits) s.requires.0.few
+    from_small _ _ s.args.from (λ k. (c.before.shared-slice-known.given k).fits) (λ k. (c.shared-slice-known2.given k).fits) s.requires.0.few
 
 loop-holds : tie.Need-loop-init invariant-loop decreases-loop
-loop-holds c = let s = c.before.before in (s.requires.0.rises, s.requires.1, sixteen-none _ _ s.args.from)
+loop-holds c = let s = c.before.before in (s.requires.0.rises, s.requires.1, sixteen_none _ _ s.args.from)
 
 add-sixteen-requires : tie.Need-add-sixteen-requires invariant-loop decreases-loop
 add-sixteen-requires c κs =
@@ -67,7 +67,7 @@ ended c =
     let s = l.before.before.before in
     let at : l.loop.i ≡ s.args.to = omega (arith, l.loop.invariant.0, c.before.loop-test.false) in
     subst (λ (i : ℕ). Adds s.args.a.now s.args.b.now s.args.from i (total l.loop.sums)) at
-    (sixteen-adds _ _ s.args.from l.loop.i l.loop.sums l.loop.invariant.2)
+    (sixteen_adds _ _ s.args.from l.loop.i l.loop.sums l.loop.invariant.2)
 
 total-requires : tie.Need-total-requires invariant-loop decreases-loop
 total-requires c κs =
@@ -77,8 +77,8 @@ total-requires c κs =
 returns : tie.Need-returns invariant-loop decreases-loop
 returns c = rw c.total.ensures (ended c.before)
 
-pub sixteens-spec : {M : Type 1} → statement M
-sixteens-spec =
+pub sixteens_spec : {M : Type 1} → statement M
+sixteens_spec =
     tie.close
     (tie.spec
     invariant-loop

@@ -5,8 +5,8 @@ use native.Mathlib.Nat.{lt_of_le_of_lt}
 use borrow.Author.Rules.{rules}
 use lib.Dec.{lit<}
 use Rattle.definition.specs.Metric.{squared}
-use Rattle.theory.specs.Metric.{squared-most}
-use Rattle.metric.proofs.Gap.{ground-most, ground-adds}
+use Rattle.theory.specs.Metric.{squared_most}
+use Rattle.metric.proofs.Gap.{ground_most, ground_adds}
 use Rattle.metric.proofs.squared.Statement.{statement}
 use Rattle.metric.proofs.squared.Tie as tie
 
@@ -16,7 +16,7 @@ square : (c : tie.After-ground) → let s = c.before.before.before in let gap = 
 square c =
     let s = c.before.before.before in
     rw (c.ground.ensures, c.before.lower.ensures, c.before.before.higher.ensures)
-    (sym (ground-adds s.args.x s.args.y s.ranges.x.fits s.ranges.y.fits))
+    (sym (ground_adds s.args.x s.args.y s.ranges.x.fits s.ranges.y.fits))
 
 higher-requires : tie.Need-higher-requires
 higher-requires c κs = search rules
@@ -31,7 +31,7 @@ sub-gap : tie.Need-overflow-sub-gap
 sub-gap c =
     let s = c.before.before.before in
     rw (c.ground.ensures, c.before.lower.ensures, c.before.before.higher.ensures)
-    (ground-most s.args.x s.args.y s.ranges.x.fits s.ranges.y.fits)
+    (ground_most s.args.x s.args.y s.ranges.x.fits s.ranges.y.fits)
 
 cast-result : tie.Need-overflow-cast-result
 cast-result c = search rules
@@ -42,10 +42,10 @@ cast-result-2 c = search rules
 mul-result : tie.Need-overflow-mul-result
 mul-result c =
     let s = c.before.before.before in
-    record { fits = rw (square c) (lt_of_le_of_lt (squared-most s.args.x s.args.y s.ranges.x.fits s.ranges.y.fits) (lit< tt)) }
+    record { fits = rw (square c) (lt_of_le_of_lt (squared_most s.args.x s.args.y s.ranges.x.fits s.ranges.y.fits) (lit< tt)) }
 
 returns : tie.Need-returns
 returns c = square c
 
-pub squared-spec : {M : Type 1} → statement M
-squared-spec = tie.close (tie.spec higher-requires lower-requires ground-requires sub-gap cast-result cast-result-2 mul-result returns)
+pub squared_spec : {M : Type 1} → statement M
+squared_spec = tie.close (tie.spec higher-requires lower-requires ground-requires sub-gap cast-result cast-result-2 mul-result returns)

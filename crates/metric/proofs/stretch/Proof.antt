@@ -3,7 +3,7 @@ use mathlib.Core.Path.{subst}
 use Prim.Native.Nat.{ℕ, ◌+◌, ◌-◌, ◌%◌}
 use native.Mathlib.Omega.{arith}
 use borrow.Author.Rules.{rules}
-use Rattle.metric.specs.Stretches.{Adds, adds-join, adds-small}
+use Rattle.metric.specs.Stretches.{Adds, adds_join, adds_small}
 use Rattle.metric.proofs.stretch.Statement.{statement}
 use Rattle.metric.proofs.stretch.Tie as tie
 
@@ -30,19 +30,19 @@ all : (c : tie.After-rest) → let s = c.before.before.before.before.before in
     Adds s.args.a.now s.args.b.now s.args.from s.args.to (c.before.before.sixteens.result + c.rest.result)
 all c =
     let s = c.before.before.before.before.before in
-    adds-join _ _ s.args.from (s.args.to - (s.args.to - s.args.from) % 16) s.args.to _ _ c.before.before.sixteens.ensures c.rest.ensures
+    adds_join _ _ s.args.from (s.args.to - (s.args.to - s.args.from) % 16) s.args.to _ _ c.before.before.sixteens.ensures c.rest.ensures
 
 add-result : tie.Need-overflow-add-result
 add-result c =
     let known = c.before.before.before in
     omega (
       arith,
-      adds-small _ _ _ _ _ (λ k. (known.before.shared-slice-known.given k).fits) (λ k. (known.shared-slice-known2.given k).fits)
+      adds_small _ _ _ _ _ (λ k. (known.before.shared-slice-known.given k).fits) (λ k. (known.shared-slice-known2.given k).fits)
           known.before.before.requires.few (all c),
     )
 
 returns-2 : tie.Need-returns-2
 returns-2 c = all c
 
-pub stretch-spec : {M : Type 1} → statement M
-stretch-spec = tie.close (tie.spec sub-end sub-end-2 sixteens-requires returns rest-requires add-result returns-2)
+pub stretch_spec : {M : Type 1} → statement M
+stretch_spec = tie.close (tie.spec sub-end sub-end-2 sixteens-requires returns rest-requires add-result returns-2)

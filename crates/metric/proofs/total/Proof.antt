@@ -4,7 +4,7 @@ use Prim.Native.Nat.{◌+◌, ◌-◌, ◌≤◌}
 use native.Mathlib.Omega.{arith}
 use lib.ListN.{drop}
 use Rattle.definition.specs.Lists.{total}
-use Rattle.metric.specs.Stretches.{total-from, total-end}
+use Rattle.metric.specs.Stretches.{total_from, total_end}
 use borrow.Author.Rules.{rules}
 use Rattle.metric.proofs.total.Statement.{statement}
 use Rattle.metric.proofs.total.Tie as tie
@@ -30,7 +30,7 @@ add-sum : tie.Need-overflow-add-sum invariant-loop decreases-loop
 add-sum c =
     let l = c.before.before in
     let s = l.before in
-    omega (arith, s.requires.1, l.loop.invariant.1, total-from s.args.sums.now l.loop.j (omega (arith, s.requires.0)))
+    omega (arith, s.requires.1, l.loop.invariant.1, total_from s.args.sums.now l.loop.j (omega (arith, s.requires.0)))
 
 add-j : tie.Need-overflow-add-j invariant-loop decreases-loop
 add-j c = search rules
@@ -42,17 +42,17 @@ loop-again : tie.Need-loop-preserved invariant-loop decreases-loop
 loop-again c =
     let l = c.before.before in
     let s = l.before in
-    let k = total-from s.args.sums.now l.loop.j (omega (arith, s.requires.0)) in
+    let k = total_from s.args.sums.now l.loop.j (omega (arith, s.requires.0)) in
     (omega arith, omega (arith, l.loop.invariant.1))
 
 returns : tie.Need-returns invariant-loop decreases-loop
 returns c =
     let l = c.before in
     let s = l.before in
-    omega (arith, l.loop.invariant.1, total-end s.args.sums.now l.loop.j (omega (arith, s.requires.0, c.loop-test.false)))
+    omega (arith, l.loop.invariant.1, total_end s.args.sums.now l.loop.j (omega (arith, s.requires.0, c.loop-test.false)))
 
-pub total-spec : {M : Type 1} → statement M
-total-spec =
+pub total_spec : {M : Type 1} → statement M
+total_spec =
     tie.close
     (tie.spec
     invariant-loop

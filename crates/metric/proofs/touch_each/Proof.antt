@@ -19,11 +19,11 @@ abbrev first : tie.After-shared-slice-known invariant-loop decreases-loop → �
 first c = let l = c.before.before in get_or l.before.before.args.ids.now l.loop.j 0 * l.before.before.args.dim
 
 -- its vector
-vector-in : (c : tie.After-shared-slice-known invariant-loop decreases-loop)
+vector_in : (c : tie.After-shared-slice-known invariant-loop decreases-loop)
     → let l = c.before.before in
     let a = l.before.before.args in
     VectorIn a.dim a.vectors.now (get_or a.ids.now l.loop.j 0)
-vector-in c = let l = c.before.before in l.before.before.requires.0 l.loop.j (omega arith)
+vector_in c = let l = c.before.before in l.before.before.requires.0 l.loop.j (omega arith)
 
 returns : tie.Need-returns invariant-loop decreases-loop
 returns c = tt
@@ -41,22 +41,22 @@ cast-first : tie.Need-overflow-cast-first invariant-loop decreases-loop
 cast-first c = omega (arith, c.shared-slice-known.given c.before.before.loop.j)
 
 mul-first-2 : tie.Need-overflow-mul-first-2 invariant-loop decreases-loop
-mul-first-2 c = omega (arith, (vector-in c).reach)
+mul-first-2 c = omega (arith, (vector_in c).reach)
 
 add-last : tie.Need-overflow-add-last invariant-loop decreases-loop
-add-last c = omega (arith, (vector-in c).reach)
+add-last c = omega (arith, (vector_in c).reach)
 
 sub-last : tie.Need-overflow-sub-last invariant-loop decreases-loop
 sub-last c = search rules
 
 shared-slice-read-out : tie.Need-shared-slice-read-out invariant-loop decreases-loop
-shared-slice-read-out c = omega (arith, (vector-in c.before).reach)
+shared-slice-read-out c = omega (arith, (vector_in c.before).reach)
 
 cast-out : tie.Need-overflow-cast-out invariant-loop decreases-loop
 cast-out c = omega (arith, c.shared-slice-known2.given (first c.before))
 
 shared-slice-read-out-2 : tie.Need-shared-slice-read-out-2 invariant-loop decreases-loop
-shared-slice-read-out-2 c = omega (arith, (vector-in c.before.before).reach)
+shared-slice-read-out-2 c = omega (arith, (vector_in c.before.before).reach)
 
 cast-out-2 : tie.Need-overflow-cast-out-2 invariant-loop decreases-loop
 cast-out-2 c = let k = c.before.before in omega (arith, c.shared-slice-known3.given (first k + k.before.before.before.before.args.dim - 1))
@@ -88,8 +88,8 @@ same_length c = search rules
 returns-2 : tie.Need-returns-2 invariant-loop decreases-loop
 returns-2 c = tt
 
-pub touch-each-spec : {M : Type 1} → statement M
-touch-each-spec =
+pub touch_each_spec : {M : Type 1} → statement M
+touch_each_spec =
     tie.close
     (tie.spec
     invariant-loop

@@ -1,6 +1,6 @@
 -- `from_query_within`.
 use native.Mathlib.Nat.{add-sub_cancel_left}
-use Rattle.definition.specs.Metric.{fromQuery, vector}
+use Rattle.definition.specs.Metric.{from_query, vector}
 use borrow.Author.Rules.{rules}
 use Rattle.metric_within.proofs.from_query_within.Statement.{statement}
 use Rattle.metric_within.proofs.from_query_within.Tie as tie
@@ -24,11 +24,11 @@ summed-within-requires : tie.Need-summed-within-requires
 summed-within-requires c κs = search rules
 
 returns : tie.Need-returns
-unfolding fromQuery vector
+unfolding from_query vector
 returns c = rw add-sub_cancel_left at c.summed-within.ensures
 
-pub from-query-within-spec : {M : Type 1} → statement M
-from-query-within-spec =
+pub from_query_within_spec : {M : Type 1} → statement M
+from_query_within_spec =
     tie.close
     (tie.spec
     mul_at

@@ -3,8 +3,8 @@ use Prim.Native.Nat.{◌+◌, ◌*◌, ◌/◌}
 use native.Mathlib.Omega.{arith}
 use borrow.Author.Rules.{rules}
 use lib.ListN.{length}
-use Rattle.metric.specs.Stretches.{Adds, adds-join}
-use Rattle.metric_within.proofs.Reaching.{front-small, front-within, all-within}
+use Rattle.metric.specs.Stretches.{Adds, adds_join}
+use Rattle.metric_within.proofs.Reaching.{front_small, front_within, all_within}
 use Rattle.metric_within.proofs.summed_within.Statement.{statement}
 use Rattle.metric_within.proofs.summed_within.Tie as tie
 
@@ -13,7 +13,7 @@ all : (c : tie.After-stretch2) → let s = c.before.before.before.before.before 
     Adds s.args.a.now s.args.b.now 0 (length s.args.a.now) (c.before.before.stretch.result + c.stretch2.result)
 all c =
     let n = length c.before.before.before.before.before.args.a.now in
-    adds-join _ _ 0 ((n + 48) / 64 * 16) n _ _ c.before.before.stretch.ensures c.stretch2.ensures
+    adds_join _ _ 0 ((n + 48) / 64 * 16) n _ _ c.before.before.stretch.ensures c.stretch2.ensures
 
 add-first : tie.Need-overflow-add-first
 add-first c = search rules
@@ -28,7 +28,7 @@ returns : tie.Need-returns
 returns c =
     let known = c.before.before in
     let s = known.before.before in
-    front-within _ _ (λ k. (known.before.shared-slice-known.given k).fits) (λ k. (known.shared-slice-known2.given k).fits) s.requires.1
+    front_within _ _ (λ k. (known.before.shared-slice-known.given k).fits) (λ k. (known.shared-slice-known2.given k).fits) s.requires.1
     ((length s.args.a.now + 48) / 64 * 16) _ _ c.before.stretch.ensures c.if1.true
 
 stretch-requires-2 : tie.Need-stretch-requires-2
@@ -39,17 +39,17 @@ add-result c =
     let known = c.before.before.before in
     omega (
       arith,
-      front-small _ _ (λ k. (known.before.shared-slice-known.given k).fits) (λ k. (known.shared-slice-known2.given k).fits)
+      front_small _ _ (λ k. (known.before.shared-slice-known.given k).fits) (λ k. (known.shared-slice-known2.given k).fits)
           known.before.before.requires.1 _ _ (all c),
     )
 
 returns-2 : tie.Need-returns-2
 returns-2 c =
     let known = c.before.before.before in
-    all-within _ _ (λ k. (known.before.shared-slice-known.given k).fits) (λ k. (known.shared-slice-known2.given k).fits)
+    all_within _ _ (λ k. (known.before.shared-slice-known.given k).fits) (λ k. (known.shared-slice-known2.given k).fits)
     known.before.before.requires.1 _ _ (all c)
 
-pub summed-within-spec : {M : Type 1} → statement M
-summed-within-spec =
+pub summed_within_spec : {M : Type 1} → statement M
+summed_within_spec =
     tie.close
     (tie.spec add-first mul-first stretch-requires returns stretch-requires-2 add-result returns-2)

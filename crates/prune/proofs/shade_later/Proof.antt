@@ -1,6 +1,6 @@
 -- `shade_later` meets its contract. The part lent as the query is the taken entry's vector.
 use borrow.Author.Rules.{rules}
-use Rattle.metric.specs.Laws.{lent-vector, lent_length}
+use Rattle.metric.specs.Laws.{lent_vector, lent_length}
 use Rattle.prune.proofs.shade_later.Statement.{statement}
 use Rattle.prune.proofs.shade_later.Tie as tie
 
@@ -31,10 +31,10 @@ returns : tie.Need-returns
 returns c =
     let rest = c.before.before in
     let s = rest.before.before.before.before.before.before.before in
-    rest.shade-rest.ensures.are s.args.taken (lent-vector _ _ _)
+    rest.shade-rest.ensures.are s.args.taken (lent_vector _ _ _)
 
-pub shade-later-spec : {M : Type 1} → statement M
-shade-later-spec =
+pub shade_later_spec : {M : Type 1} → statement M
+shade_later_spec =
     tie.close
     (tie.spec
     mul_at

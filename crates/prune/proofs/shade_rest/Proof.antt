@@ -6,8 +6,8 @@ use native.Mathlib.Omega.{arith}
 use lib.ListN.{length}
 use borrow.Author.Rules.{rules}
 use borrow.Author.Tests.{not-true, not-false}
-use Rattle.prune.proofs.Shading.{Shading, shading-start, shading-raise, shading-skip, shading-end}
-use Rattle.laws.specs.All.{all-at}
+use Rattle.prune.proofs.Shading.{Shading, shading_start, shading_raise, shading_skip, shading_end}
+use Rattle.laws.specs.All.{all_at}
 use Rattle.whole.specs.Whole.{limit}
 use Rattle.metric.specs.Exact.{VectorIn}
 use Rattle.prune.proofs.shade_rest.Statement.{statement}
@@ -21,7 +21,7 @@ abbrev decreases-loop : tie.decreases-loop
 decreases-loop vectors dim query ids dists factors₀ from target m j₀ factors j = length ids - j
 
 loop-holds : tie.Need-loop-init invariant-loop decreases-loop
-loop-holds c = shading-start (omega arith) (omega arith)
+loop-holds c = shading_start (omega arith) (omega arith)
 
 mul-factor : tie.Need-overflow-mul-factor invariant-loop decreases-loop
 mul-factor c = search rules
@@ -43,7 +43,7 @@ from-query-requires c κs =
     let turn = c.before.before.before.before.before in
     let s = turn.before.before.before.before.before.before in
     let In = VectorIn s.args.dim s.args.vectors.now in
-    (subst In (sym c.index_of.ensures) (all-at In 0 s.args.ids.now s.requires.0.rows turn.loop.j (omega arith)), (s.requires.1.2, s.requires.0.narrow))
+    (subst In (sym c.index_of.ensures) (all_at In 0 s.args.ids.now s.requires.0.rows turn.loop.j (omega arith)), (s.requires.1.2, s.requires.0.narrow))
 
 mul-raised : tie.Need-overflow-mul-raised invariant-loop decreases-loop
 mul-raised c = search rules
@@ -56,7 +56,7 @@ raised-requires c κs =
     let apart = c.before.from-query.ensures in
     let turn = c.before.before.before.before.before.before.before in
     let s = turn.before.before.before.before.before.before in
-    let near = all-at (λ (d : ℕ). d ≤ limit) 0 s.args.dists.now s.requires.0.small turn.loop.j (omega (arith, s.requires.0.same)) in
+    let near = all_at (λ (d : ℕ). d ≤ limit) 0 s.args.dists.now s.requires.0.small turn.loop.j (omega (arith, s.requires.0.same)) in
     (near, omega (arith, apart.is, apart.small))
 
 mul-factors : tie.Need-overflow-mul-factors invariant-loop decreases-loop
@@ -78,8 +78,8 @@ loop-again c =
     let s = turn.before.before.before.before.before.before in
     let h : l.j < length s.args.ids.now = omega arith in
     ⊎_elim
-    (λ w. rw w.6 (shading-raise s.requires.0 l.invariant h (rw w.2.ensures at w.3.ensures) (not-true _ w.0.taken) w.5.ensures))
-    (λ w. rw w.1 (shading-skip s.requires.0 l.invariant h (not-false _ w.0.left)))
+    (λ w. rw w.6 (shading_raise s.requires.0 l.invariant h (rw w.2.ensures at w.3.ensures) (not-true _ w.0.taken) w.5.ensures))
+    (λ w. rw w.1 (shading_skip s.requires.0 l.invariant h (not-false _ w.0.left)))
     c.if1.branch
 
 same_length : tie.Need-same-length invariant-loop decreases-loop
@@ -88,10 +88,10 @@ same_length c = search rules
 returns : tie.Need-returns invariant-loop decreases-loop
 returns c =
     let turn = c.before in
-    shading-end turn.before.before.before.before.before.before.requires.0 turn.loop.invariant (omega arith)
+    shading_end turn.before.before.before.before.before.before.requires.0 turn.loop.invariant (omega arith)
 
-pub shade-rest-spec : {M : Type 1} → statement M
-shade-rest-spec =
+pub shade_rest_spec : {M : Type 1} → statement M
+shade_rest_spec =
     tie.close
     (tie.spec
     invariant-loop

@@ -4,11 +4,11 @@ use mathlib.Core.Logic.{⊎_elim}
 use Prim.Native.Nat.{◌-◌, ◌<◌}
 use native.Mathlib.Omega.{arith}
 use lib.ListN.{length, length-set}
-use Rattle.laws.specs.All.{all-at}
+use Rattle.laws.specs.All.{all_at}
 use Rattle.metric.specs.Exact.{VectorIn}
-use Rattle.prune.specs.Says.{roundsOf}
+use Rattle.prune.specs.Says.{rounds_of}
 use Rattle.definition.specs.Floats.{largest}
-use Rattle.prune.proofs.Steps.{fromRound, Walk, Going, walk_same, going-first, walk-skip, walk-take, walk_first, full, last-round, reached, again}
+use Rattle.prune.proofs.Steps.{from_round, Walk, Going, walk_same, going_first, walk_skip, walk_take, walk_first, full, last_round, reached, again}
 use borrow.Author.Rules.{rules}
 use borrow.Author.Tests.{not-true, not-false}
 use Rattle.prune.proofs.take_rounds.Statement.{statement}
@@ -16,7 +16,7 @@ use Rattle.prune.proofs.take_rounds.Tie as tie
 
 abbrev invariant-loop : tie.invariant-loop
 invariant-loop vectors dim ids dists factors₀ row₀ degree alpha m target current count₀ round i₀ factors row count i =
-    Walk dim vectors ids dists target (8 - round) current degree (fromRound dim vectors ids dists target current degree round factors₀ row₀ count₀)
+    Walk dim vectors ids dists target (8 - round) current degree (from_round dim vectors ids dists target current degree round factors₀ row₀ count₀)
     (length row₀) factors row count i
 
 abbrev decreases-loop : tie.decreases-loop
@@ -25,7 +25,7 @@ decreases-loop vectors dim ids dists factors₀ row₀ degree alpha m target cur
 
 abbrev invariant-rounds : tie.invariant-rounds
 invariant-rounds vectors dim ids dists factors₀ row₀ degree alpha m target current₀ count₀ round₀ factors row current count round =
-    Going dim vectors ids dists target degree (roundsOf dim vectors ids dists degree alpha factors₀) (length row₀) factors row current count round
+    Going dim vectors ids dists target degree (rounds_of dim vectors ids dists degree alpha factors₀) (length row₀) factors row current count round
 
 abbrev decreases-rounds : tie.decreases-rounds
 decreases-rounds vectors dim ids dists factors₀ row₀ degree alpha m target current₀ count₀ round₀ factors row current count round =
@@ -37,7 +37,7 @@ target-of-requires c κs = search rules
 rounds-holds : tie.Need-rounds-init invariant-loop decreases-loop invariant-rounds decreases-rounds
 rounds-holds c =
     let s = c.before.before.before.before.before.before in
-    going-first s.args.alpha s.args.factors.now s.args.row.now c.target-of.ensures s.requires.1.0
+    going_first s.args.alpha s.args.factors.now s.args.row.now c.target-of.ensures s.requires.1.0
 
 loop-holds : tie.Need-loop-init invariant-loop decreases-loop invariant-rounds decreases-rounds
 loop-holds c = walk_first c.rounds.invariant
@@ -84,7 +84,7 @@ shade-later-requires c κs =
       s.requires.0,
       (
         (length-set l.factors l.i _ ∙ l.invariant.nf, omega arith),
-        subst In (sym c.before.index_of.ensures) (all-at In 0 s.args.ids.now s.requires.0.rows l.i (omega arith)),
+        subst In (sym c.before.index_of.ensures) (all_at In 0 s.args.ids.now s.requires.0.rows l.i (omega arith)),
       ),
     )
 
@@ -106,9 +106,9 @@ loop-again c =
     let wide = turn.before.rounds.invariant.nr in
     ⊎_elim
     (λ w. walk_same w.7 w.8 w.9
-    (walk-take same l.invariant h room (not-true _ w.0.taken) (omega (arith, s.requires.1.1, wide))
+    (walk_take same l.invariant h room (not-true _ w.0.taken) (omega (arith, s.requires.1.1, wide))
     (w.4.kept.1.1.1.1.0 ∙ length-set l.factors l.i largest) (rw w.2.ensures at w.4.ensures)))
-    (λ w. walk_same w.1 w.2 w.3 (walk-skip same l.invariant h room (not-false _ w.0.left)))
+    (λ w. walk_same w.1 w.2 w.3 (walk_skip same l.invariant h room (not-false _ w.0.left)))
     c.if2.branch
 
 add-round : tie.Need-overflow-add-round invariant-loop decreases-loop invariant-rounds decreases-rounds
@@ -149,7 +149,7 @@ returns-2 : tie.Need-returns-2 invariant-loop decreases-loop invariant-rounds de
 returns-2 c =
     let turn = c.before.before in
     let s = turn.before.before.before.before.before.before.before.before in
-    last-round turn.before.rounds.invariant s.requires.0.same turn.loop.invariant (omega arith) (omega arith)
+    last_round turn.before.rounds.invariant s.requires.0.same turn.loop.invariant (omega arith) (omega arith)
 
 same-length-5 : tie.Need-same-length-5 invariant-loop decreases-loop invariant-rounds decreases-rounds
 same-length-5 c = search rules
@@ -163,8 +163,8 @@ returns-3 c =
     let s = turn.before.before.before.before.before.before.before.before in
     reached turn.before.rounds.invariant s.requires.0.same turn.loop.invariant (omega arith) c.if4.false
 
-pub take-rounds-spec : {M : Type 1} → statement M
-take-rounds-spec =
+pub take_rounds_spec : {M : Type 1} → statement M
+take_rounds_spec =
     tie.close
     (tie.spec
     invariant-loop

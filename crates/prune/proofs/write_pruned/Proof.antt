@@ -35,8 +35,8 @@ returns c =
     written a.dim a.vectors.now a.ids.now a.dists.now a.degree a.alpha _ _ s.requires.0.same s.requires.1.1
     rounds.take-rounds.auto.1.1.1.1.1.0 zeros rounds.take-rounds.ensures padded.pad-from.ensures
 
-pub write-pruned-spec : {M : Type 1} → statement M
-write-pruned-spec =
+pub write_pruned_spec : {M : Type 1} → statement M
+write_pruned_spec =
     tie.close
     (tie.spec
     clear-floats-requires

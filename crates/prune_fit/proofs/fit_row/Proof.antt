@@ -3,7 +3,7 @@ use mathlib.Core.Path.{◌≡◌, ap}
 use Prim.Native.Nat.{ℕ, ◌*◌}
 use native.Mathlib.Omega.{arith}
 use borrow.Author.Rules.{rules}
-use Rattle.prune_fit.specs.Fits.{fits-short, fits-long, node-reaches, ids-reach, as-measurable}
+use Rattle.prune_fit.specs.Fits.{fits_short, fits_long, node_reaches, ids_reach, as_measurable}
 use Rattle.prune_fit.proofs.fit_row.Statement.{statement}
 use Rattle.prune_fit.proofs.fit_row.Tie as tie
 
@@ -27,20 +27,20 @@ same_length c = search rules
 returns : tie.Need-returns
 returns c =
     let placed = c.before.before.before.before.before in
-    fits-short _ _ _ _ _ _ placed.index_of.ensures (omega arith) c.before.before.put-row.ensures
+    fits_short _ _ _ _ _ _ placed.index_of.ensures (omega arith) c.before.before.put-row.ensures
 
 measure-requires : tie.Need-measure-requires
 measure-requires c κs =
     let placed = c.before.before in
     let f = (called placed).requires.0 in
-    (omega arith, (node-reaches f placed.index_of.ensures, ids-reach f))
+    (omega arith, (node_reaches f placed.index_of.ensures, ids_reach f))
 
 prune-into-requires : tie.Need-prune-into-requires
 prune-into-requires c κs =
     let measured = c.before.before.before.before.before in
     let placed = measured.before.before.before in
     let f = (called placed).requires.0 in
-    (as-measurable f _ (omega arith) measured.measure.ensures, (f.apart, omega (arith, begins placed)))
+    (as_measurable f _ (omega arith) measured.measure.ensures, (f.apart, omega (arith, begins placed)))
 
 same-length-2 : tie.Need-same-length-2
 same-length-2 c = search rules
@@ -56,10 +56,10 @@ returns-2 c =
     let pruned = c.before.before.before.before in
     let measured = pruned.before.before.before.before.before.before in
     let placed = measured.before.before.before in
-    fits-long _ _ _ _ _ _ placed.index_of.ensures (omega arith) measured.measure.ensures pruned.prune-into.ensures
+    fits_long _ _ _ _ _ _ placed.index_of.ensures (omega arith) measured.measure.ensures pruned.prune-into.ensures
 
-pub fit-row-spec : {M : Type 1} → statement M
-fit-row-spec =
+pub fit_row_spec : {M : Type 1} → statement M
+fit_row_spec =
     tie.close
     (tie.spec
     index-of-requires

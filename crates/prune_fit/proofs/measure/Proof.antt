@@ -1,6 +1,6 @@
 -- `measure` meets its contract. The part lent as the query is the node's vector.
-use Rattle.definition.specs.Metric.{fromQuery, between}
-use Rattle.metric.specs.Laws.{lent-vector}
+use Rattle.definition.specs.Metric.{from_query, between}
+use Rattle.metric.specs.Laws.{lent_vector}
 use borrow.Author.Rules.{rules}
 use Rattle.prune_fit.proofs.measure.Statement.{statement}
 use Rattle.prune_fit.proofs.measure.Tie as tie
@@ -30,14 +30,14 @@ same_length : tie.Need-same-length
 same_length c = search rules
 
 returns : tie.Need-returns
-unfolding between fromQuery
+unfolding between from_query
 returns c =
     let each = c.before.before in
     let s = each.before.before.before.before.before.before in
-    rw (lent-vector s.args.dim s.args.vectors.now s.args.node) at each.from-query-each.ensures
+    rw (lent_vector s.args.dim s.args.vectors.now s.args.node) at each.from-query-each.ensures
 
-pub measure-spec : {M : Type 1} → statement M
-measure-spec =
+pub measure_spec : {M : Type 1} → statement M
+measure_spec =
     tie.close
     (tie.spec
     mul_at

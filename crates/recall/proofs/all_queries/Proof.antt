@@ -7,7 +7,7 @@ use Prim.Native.Nat.{◌-◌}
 use native.Mathlib.Omega.{arith}
 use borrow.Author.Rules.{rules}
 use Rattle.recall.specs.Asking.{call_of}
-use Rattle.recall.proofs.Tallying.{Going, Outputs, go-start, query-fits, query-room, go_on, go-end}
+use Rattle.recall.proofs.Tallying.{Going, Outputs, go_start, query_fits, query_room, go_on, go_end}
 use Rattle.recall.proofs.all_queries.Statement.{statement}
 use Rattle.recall.proofs.all_queries.Tie as tie
 
@@ -32,13 +32,13 @@ first-epoch-requires c κs = omega (arith, c.before.before.before.before.before.
 loop-holds : tie.Need-loop-init invariant-loop decreases-loop
 loop-holds c =
     let m = c.before.before in
-    (go-start _ _ m.first-epoch.ensures, record { ids-long = refl; dists-long = refl; near-long = refl; apart-long = refl })
+    (go_start _ _ m.first-epoch.ensures, record { ids_long = refl; dists_long = refl; near_long = refl; apart_long = refl })
 
 mul_at : tie.Need-overflow-mul-at invariant-loop decreases-loop
-mul_at c = let s = called (begun c.before) in omega (arith, query-fits s.pre.0 s.pre.1.0 c.loop-test.true)
+mul_at c = let s = called (begun c.before) in omega (arith, query_fits s.pre.0 s.pre.1.0 c.loop-test.true)
 
 add-end : tie.Need-overflow-add-end invariant-loop decreases-loop
-add-end c = let s = called (begun c.before) in omega (arith, query-fits s.pre.0 s.pre.1.0 c.loop-test.true)
+add-end c = let s = called (begun c.before) in omega (arith, query_fits s.pre.0 s.pre.1.0 c.loop-test.true)
 
 sub-query : tie.Need-overflow-sub-query invariant-loop decreases-loop
 sub-query c = search rules
@@ -47,7 +47,7 @@ part-query-start : tie.Need-slice-bounds-query-start invariant-loop decreases-lo
 part-query-start c = search rules
 
 part-query-end : tie.Need-slice-bounds-query-end invariant-loop decreases-loop
-part-query-end c = let s = called (begun c.before) in query-fits s.pre.0 s.pre.1.0 c.loop-test.true
+part-query-end c = let s = called (begun c.before) in query_fits s.pre.0 s.pre.1.0 c.loop-test.true
 
 slice-aggregate-one-query : tie.Need-slice-aggregate-one-query invariant-loop decreases-loop
 slice-aggregate-one-query c = search rules
@@ -67,13 +67,13 @@ one-query-requires c κs =
     let l = t.before in
     let m = begun l in
     let s = called m in
-    query-room s.pre.0 s.pre.1.0 t.loop-test.true m.first-epoch.ensures l.loop.invariant.0 l.loop.invariant.1
+    query_room s.pre.0 s.pre.1.0 t.loop-test.true m.first-epoch.ensures l.loop.invariant.0 l.loop.invariant.1
 
 add-found : tie.Need-overflow-add-found invariant-loop decreases-loop
 add-found c = search rules
 
-add-whole : tie.Need-overflow-add-whole invariant-loop decreases-loop
-add-whole c = search rules
+add_whole : tie.Need-overflow-add-whole invariant-loop decreases-loop
+add_whole c = search rules
 
 add-q : tie.Need-overflow-add-q invariant-loop decreases-loop
 add-q c = search rules
@@ -92,10 +92,10 @@ loop-again c =
       go_on s.pre.0 s.pre.1.0 t.loop-test.true m.first-epoch.ensures l.loop.invariant.0 o.one-query.ensures s.pre.1.1
           (⊎_elim (λ w. inl (w.0.taken, w.1)) (λ w. inr (w.0.left, w.1)) c.if1.branch),
       record {
-        ids-long = room.0 ∙ l.loop.invariant.1.ids-long;
-        dists-long = room.1.0 ∙ l.loop.invariant.1.dists-long;
-        near-long = room.1.1.0 ∙ l.loop.invariant.1.near-long;
-        apart-long = room.1.1.1.0 ∙ l.loop.invariant.1.apart-long;
+        ids_long = room.0 ∙ l.loop.invariant.1.ids_long;
+        dists_long = room.1.0 ∙ l.loop.invariant.1.dists_long;
+        near_long = room.1.1.0 ∙ l.loop.invariant.1.near_long;
+        apart_long = room.1.1.1.0 ∙ l.loop.invariant.1.apart_long;
       },
     )
 
@@ -107,10 +107,10 @@ returns c =
     let l = c.before.loop in
     let m = begun c.before in
     let q : l.q ≡ (called m).args.count = omega (arith, l.invariant.0.most) in
-    go-end m.first-epoch.ensures (rw q at l.invariant.0.tallied)
+    go_end m.first-epoch.ensures (rw q at l.invariant.0.tallied)
 
-pub all-queries-spec : {M : Type 1} → statement M
-all-queries-spec =
+pub all_queries_spec : {M : Type 1} → statement M
+all_queries_spec =
     tie.close
     (tie.spec
     invariant-loop
@@ -128,7 +128,7 @@ all-queries-spec =
     slice-aggregate-one-query-4
     one-query-requires
     add-found
-    add-whole
+    add_whole
     add-q
     loop-less
     loop-again

@@ -20,7 +20,7 @@ same_length c = search rules
 returns : tie.Need-returns
 returns c =
     let m = c.before.before.before.before.mark.ensures in
-    record { is = c.marked.ensures.is _ m.seen; marks-le = m.marks-le }
+    record { is = c.marked.ensures.is _ m.seen; marks_le = m.marks_le }
 
-pub in-both-spec : {M : Type 1} → statement M
-in-both-spec = tie.close (tie.spec mark-requires marked-requires same_length returns)
+pub in_both_spec : {M : Type 1} → statement M
+in_both_spec = tie.close (tie.spec mark-requires marked-requires same_length returns)

@@ -12,5 +12,5 @@ returns c = (sym (ap bit (eq-eqb _ _ c.if1.true)), omega arith)
 returns-2 : tie.Need-returns-2
 returns-2 c = (sym (ap bit (ne_eqb _ _ c.if1.false)), omega arith)
 
-pub is-hit-spec : {M : Type 1} → statement M
-is-hit-spec = tie.close (tie.spec returns returns-2)
+pub is_hit_spec : {M : Type 1} → statement M
+is_hit_spec = tie.close (tie.spec returns returns-2)

@@ -3,7 +3,7 @@ use mathlib.Core.Path.{◌≡◌, refl}
 use Prim.Native.Nat.{◌-◌, ◌≤◌}
 use native.Mathlib.Omega.{arith}
 use borrow.Author.Rules.{rules}
-use Rattle.recall.proofs.Marking.{Marking, mark-start, mark-more}
+use Rattle.recall.proofs.Marking.{Marking, mark_start, mark_more}
 use Rattle.recall.proofs.mark.Statement.{statement}
 use Rattle.recall.proofs.mark.Tie as tie
 
@@ -14,7 +14,7 @@ abbrev decreases-loop : tie.decreases-loop
 decreases-loop words₀ ids count epoch j₀ words j = count - j
 
 loop-holds : tie.Need-loop-init invariant-loop decreases-loop
-loop-holds c = (omega arith, mark-start _ _ _ c.requires.0)
+loop-holds c = (omega arith, mark_start _ _ _ c.requires.0)
 
 mul-i : tie.Need-overflow-mul-i invariant-loop decreases-loop
 mul-i c = search rules
@@ -38,7 +38,7 @@ loop-less : tie.Need-loop-smaller invariant-loop decreases-loop
 loop-less c = omega arith
 
 loop-again : tie.Need-loop-preserved invariant-loop decreases-loop
-loop-again c = (omega arith, mark-more _ _ _ _ _ (omega (arith, c.before.before.before.requires.1.few)) _ refl c.before.before.loop.invariant.1)
+loop-again c = (omega arith, mark_more _ _ _ _ _ (omega (arith, c.before.before.before.requires.1.few)) _ refl c.before.before.loop.invariant.1)
 
 same_length : tie.Need-same-length invariant-loop decreases-loop
 same_length c = search rules

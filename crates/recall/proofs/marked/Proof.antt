@@ -5,7 +5,7 @@ use native.Mathlib.Omega.{arith}
 use lib.ListN.{take}
 use borrow.Author.Rules.{rules}
 use Rattle.recall.specs.Marks.{Counted}
-use Rattle.recall.proofs.Marking.{count-start, count-more}
+use Rattle.recall.proofs.Marking.{count-start, count_more}
 use Rattle.recall.proofs.marked.Statement.{statement}
 use Rattle.recall.proofs.marked.Tie as tie
 
@@ -54,7 +54,7 @@ loop-again c =
     let l = c.before.before.before.before in
     let s = l.before.before.before in
     let inside = s.requires.inside l.loop.j (omega arith) in
-    let more = count-more _ _ s.args.ids.now l.loop.j _ (omega (arith, s.requires.few)) inside _ c.is-hit.ensures.0 l.loop.invariant.2 in
+    let more = count_more _ _ s.args.ids.now l.loop.j _ (omega (arith, s.requires.few)) inside _ c.is-hit.ensures.0 l.loop.invariant.2 in
     (omega arith, omega (arith, c.is-hit.ensures.1), more)
 
 returns : tie.Need-returns invariant-loop decreases-loop
@@ -63,8 +63,8 @@ returns c =
     let q : l.j ≡ c.before.before.before.before.args.count = omega arith in
     rw q at l.invariant.2
 
-pub marked-spec : {M : Type 1} → statement M
-marked-spec =
+pub marked_spec : {M : Type 1} → statement M
+marked_spec =
     tie.close
     (tie.spec
     invariant-loop

@@ -1,7 +1,7 @@
 -- `one_query`. The walk leaves no mark above its epoch, and its answers are entries, as are the nearest: these may be marked with the next, and those counted.
 use native.Mathlib.Omega.{arith}
 use borrow.Author.Rules.{rules}
-use Rattle.recall.proofs.Answering.{walk-room, marks-fit, both-room, recalled}
+use Rattle.recall.proofs.Answering.{walk_room, marks_fit, both_room, recalled}
 use Rattle.recall.proofs.one_query.Statement.{statement}
 use Rattle.recall.proofs.one_query.Tie as tie
 
@@ -18,7 +18,7 @@ at_next c = c.before.before.before.before.before
 walk-answers-requires : tie.Need-walk-answers-requires
 walk-answers-requires c κs =
     let s = c.before.before.before.before.before.before.before.before.before.before.before in
-    walk-room s.requires.0 s.requires.1
+    walk_room s.requires.0 s.requires.1
 
 exhaustive-accepted-requires : tie.Need-exhaustive-accepted-requires
 exhaustive-accepted-requires c κs = (at-walk c.before.before.before.before.before.before.before.before).requires.0.nearest
@@ -26,7 +26,7 @@ exhaustive-accepted-requires c κs = (at-walk c.before.before.before.before.befo
 next-epoch-requires : tie.Need-next-epoch-requires
 next-epoch-requires c κs =
     let w = at-nearest c.before.before.before.before in
-    omega (arith, (at-walk w).pre.1.0, w.walk-answers.ensures.epoch-is)
+    omega (arith, (at-walk w).pre.1.0, w.walk-answers.ensures.epoch_is)
 
 sub-in-both : tie.Need-overflow-sub-in-both
 sub-in-both c = search rules
@@ -38,7 +38,7 @@ part-in-both-end : tie.Need-slice-bounds-in-both-end
 part-in-both-end c =
     let w = at-nearest (at_next c) in
     let s = at-walk w in
-    marks-fit s.pre.0 w.walk-answers.ensures
+    marks_fit s.pre.0 w.walk-answers.ensures
 
 in-both-requires : tie.Need-in-both-requires
 in-both-requires c κs =
@@ -46,7 +46,7 @@ in-both-requires c κs =
     let e = at_next n in
     let w = at-nearest e in
     let s = at-walk w in
-    both-room s.pre.0 w.walk-answers.ensures n.next-epoch.ensures e.exhaustive-accepted.ensures
+    both_room s.pre.0 w.walk-answers.ensures n.next-epoch.ensures e.exhaustive_accepted.ensures
 
 same_length : tie.Need-same-length
 same_length c = search rules
@@ -70,11 +70,11 @@ returns c =
     let e = at_next n in
     let w = at-nearest e in
     let s = at-walk w in
-    recalled s.pre.0 w.walk-answers.ensures n.next-epoch.ensures e.exhaustive-accepted.ensures
+    recalled s.pre.0 w.walk-answers.ensures n.next-epoch.ensures e.exhaustive_accepted.ensures
     b.in_both.new.0 b.in_both.auto.0 b.in_both.ensures
 
-pub one-query-spec : {M : Type 1} → statement M
-one-query-spec =
+pub one_query_spec : {M : Type 1} → statement M
+one_query_spec =
     tie.close
     (tie.spec
     walk-answers-requires

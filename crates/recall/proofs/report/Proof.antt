@@ -53,10 +53,10 @@ returns-2 c =
     let k = c.before.before.before.before in
     let i = k.before.before.before in
     let n = i.before in
-    done (asked (at-number n)) _ n.report-number.ensures i.if1.false _ k.report-accepted.ensures
+    done (asked (at-number n)) _ n.report-number.ensures i.if1.false _ k.report_accepted.ensures
 
-pub report-spec : {M : Type 1} → statement M
-report-spec =
+pub report_spec : {M : Type 1} → statement M
+report_spec =
     tie.close
     (tie.spec
     report-number-requires

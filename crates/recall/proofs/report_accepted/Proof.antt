@@ -5,9 +5,9 @@ use native.Mathlib.Omega.{arith}
 use borrow.Author.Rules.{rules}
 use native.Mathlib.Nat.{mul-le-mul}
 use Rattle.definition.specs.Refusals.{ReportCall}
-use Rattle.definition.specs.Outcome.{queryCount, askedEach}
+use Rattle.definition.specs.Outcome.{query_count, asked_each}
 use Rattle.recall.specs.Asking.{call_of}
-use Rattle.recall.proofs.Reporting.{done-is}
+use Rattle.recall.proofs.Reporting.{done_is}
 use Rattle.recall.proofs.report_accepted.Statement.{statement}
 use Rattle.recall.proofs.report_accepted.Tie as tie
 
@@ -25,7 +25,7 @@ least-requires : tie.Need-least-requires
 least-requires c κs = search rules
 
 all-queries-requires : tie.Need-all-queries-requires
-unfolding queryCount askedEach
+unfolding query_count asked_each
 all-queries-requires c κs = let l = c.before in (record { floats = _; report = (at_least l).requires }, (refl, l.least.ensures))
 
 report-end-requires : tie.Need-report-end-requires
@@ -35,11 +35,11 @@ clear-front-requires : tie.Need-clear-front-requires
 clear-front-requires c κs = search rules
 
 mul-reported : tie.Need-overflow-mul-reported
-unfolding queryCount
+unfolding query_count
 mul-reported c =
     let l = c.before.before.before.before.before.before.before.before.before.before.before.before in
     let s = at_least l in
-    let each : l.least.result ≤ 256 = omega (arith, l.least.ensures, s.pre.k-few) in omega (arith, mul-le-mul s.pre.queries-few each)
+    let each : l.least.result ≤ 256 = omega (arith, l.least.ensures, s.pre.k_few) in omega (arith, mul-le-mul s.pre.queries_few each)
 
 reported-requires : tie.Need-reported-requires
 reported-requires c κs = search rules
@@ -51,16 +51,16 @@ same-length-2 : tie.Need-same-length-2
 same-length-2 c = search rules
 
 returns : tie.Need-returns
-unfolding queryCount askedEach
+unfolding query_count asked_each
 returns c =
     let k = c.before.before.before.before.before in
     let e = k.before.before.before in
     let t = e.before.before.before in
     let l = t.before.before in
-    done-is (asked (at_least l)) refl l.least.ensures t.all-queries.ensures e.report-end.ensures k.clear-front.ensures c.reported.ensures
+    done_is (asked (at_least l)) refl l.least.ensures t.all-queries.ensures e.report-end.ensures k.clear-front.ensures c.reported.ensures
 
-pub report-accepted-spec : {M : Type 1} → statement M
-report-accepted-spec =
+pub report_accepted_spec : {M : Type 1} → statement M
+report_accepted_spec =
     tie.close
     (tie.spec
     div-count

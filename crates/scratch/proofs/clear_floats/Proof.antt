@@ -38,5 +38,5 @@ same_length c = c.before.loop.invariant.size
 returns : tie.Need-returns invariant-loop decreases-loop
 returns c = fill_end (of_bits binary32 0) _ _ _ (omega arith) c.before.loop.invariant
 
-pub clear-floats-spec : {M : Type 1} → statement M
-clear-floats-spec = tie.close (tie.spec invariant-loop decreases-loop loop-holds mul-s slice-write-s add-i loop-less loop-again same_length returns)
+pub clear_floats_spec : {M : Type 1} → statement M
+clear_floats_spec = tie.close (tie.spec invariant-loop decreases-loop loop-holds mul-s slice-write-s add-i loop-less loop-again same_length returns)

@@ -42,8 +42,8 @@ returns c =
     front-clear s.args.w s.args.f s.args.words.now s.args.floats.now _ _ s.requires.0 s.requires.1
     words.clear-words.ensures floats.clear-floats.ensures
 
-pub clear-front-spec : {M : Type 1} → statement M
-clear-front-spec =
+pub clear_front_spec : {M : Type 1} → statement M
+clear_front_spec =
     tie.close
     (tie.spec
     sub-clear-words

@@ -25,5 +25,5 @@ returns c =
     let ends = called.before.before.before in
     room-clear _ _ _ _ _ _ _ ends.before.fresh-end.ensures ends.floats-end.ensures called.clear-front.ensures
 
-pub clear-room-spec : {M : Type 1} → statement M
-clear-room-spec = tie.close (tie.spec fresh-end-requires floats-end-requires clear-front-requires same_length same-length-2 returns)
+pub clear_room_spec : {M : Type 1} → statement M
+clear_room_spec = tie.close (tie.spec fresh-end-requires floats-end-requires clear-front-requires same_length same-length-2 returns)

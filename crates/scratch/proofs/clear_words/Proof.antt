@@ -37,5 +37,5 @@ same_length c = c.before.loop.invariant.size
 returns : tie.Need-returns invariant-loop decreases-loop
 returns c = fill_end 0 _ _ _ (omega arith) c.before.loop.invariant
 
-pub clear-words-spec : {M : Type 1} → statement M
-clear-words-spec = tie.close (tie.spec invariant-loop decreases-loop loop-holds mul-s slice-write-s add-i loop-less loop-again same_length returns)
+pub clear_words_spec : {M : Type 1} → statement M
+clear_words_spec = tie.close (tie.spec invariant-loop decreases-loop loop-holds mul-s slice-write-s add-i loop-less loop-again same_length returns)

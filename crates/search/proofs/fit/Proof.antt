@@ -1,7 +1,7 @@
 -- `fit`. Its number is all that it says.
 use mathlib.Core.Path.{ap, ◌∙◌}
 use borrow.Author.Rules.{rules}
-use Rattle.definition.specs.Outcome.{refused, fitOut}
+use Rattle.definition.specs.Outcome.{refused, fit_out}
 use Rattle.search.proofs.fit.Statement.{statement}
 use Rattle.search.proofs.fit.Tie as tie
 
@@ -12,7 +12,7 @@ refused-requires : tie.Need-refused-requires
 refused-requires c κs = search rules
 
 returns : tie.Need-returns
-unfolding fitOut
+unfolding fit_out
 returns c = c.refused.ensures ∙ ap refused c.before.fit-number.ensures.is
 
 pub fit_spec : {M : Type 1} → statement M

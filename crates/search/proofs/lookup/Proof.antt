@@ -1,8 +1,8 @@
 -- `lookup`. It is refused by its number, or accepted: as the search of the call whose table is cleaned.
 use Rattle.definition.specs.Refusals.{SearchCall}
-use Rattle.definition.specs.Outcome.{cleanedCall}
+use Rattle.definition.specs.Outcome.{cleaned_call}
 use Rattle.checks_number.specs.SearchNumber.{call_of}
-use Rattle.search.specs.Statement.{searched-same, beside-accepted, search-refused, search-done, lookup-meets}
+use Rattle.search.specs.Statement.{searched-same, beside-accepted, search_refused, search_done_lem, lookup_meets}
 use borrow.Author.Rules.{rules}
 use Rattle.search.proofs.lookup.Statement.{statement}
 use Rattle.search.proofs.lookup.Tie as tie
@@ -11,7 +11,7 @@ use Rattle.search.proofs.lookup.Tie as tie
 abbrev asked : tie.Start → SearchCall
 asked s =
     let a = s.args in
-    cleanedCall (call_of a.n a.dim a.vectors.now a.degree a.beam a.k a.start a.table.now a.query.now
+    cleaned_call (call_of a.n a.dim a.vectors.now a.degree a.beam a.k a.start a.table.now a.query.now
     a.words.now a.floats.now a.ids.now a.dists.now)
 
 lookup-number-requires : tie.Need-lookup-number-requires
@@ -21,18 +21,18 @@ refused-requires : tie.Need-refused-requires
 refused-requires c κs = search rules
 
 returns : tie.Need-returns
-unfolding cleanedCall
+unfolding cleaned_call
 returns c =
     let n = c.before.before in
     let s = n.before.before.before.before.before.before.before.before in
-    lookup-meets _ _ (search-refused (asked s) _ n.lookup-number.ensures c.before.if1.true _ c.refused.ensures)
+    lookup_meets _ _ (search_refused (asked s) _ n.lookup_number_lem.ensures c.before.if1.true _ c.refused.ensures)
 
 lookup-accepted-requires : tie.Need-lookup-accepted-requires
-unfolding cleanedCall
+unfolding cleaned_call
 lookup-accepted-requires c κs =
     let n = c.before.before.before.before.before in
     let s = n.before.before.before.before.before.before.before.before in
-    (beside-accepted (asked s) _ _ n.lookup-number.ensures c.before.before.before.before.if1.false).0
+    (beside-accepted (asked s) _ _ n.lookup_number_lem.ensures c.before.before.before.before.if1.false).0
 
 searched-requires : tie.Need-searched-requires
 searched-requires c κs = search rules
@@ -50,17 +50,17 @@ same-length-4 : tie.Need-same-length-4
 same-length-4 c = search rules
 
 returns-2 : tie.Need-returns-2
-unfolding cleanedCall
+unfolding cleaned_call
 returns-2 c =
     let k = c.before.before.before.before.before.before.before.before.before in
     let n = k.before.before.before.before.before.before in
     let s = n.before.before.before.before.before.before.before.before in
-    lookup-meets _ _
-    (search-done (asked s) _ n.lookup-number.ensures k.before.before.before.before.before.if1.false _
+    lookup_meets _ _
+    (search_done_lem (asked s) _ n.lookup_number_lem.ensures k.before.before.before.before.before.if1.false _
     (searched-same c.searched.ensures k.lookup-accepted.ensures))
 
-pub lookup-spec : {M : Type 1} → statement M
-lookup-spec =
+pub lookup_spec : {M : Type 1} → statement M
+lookup_spec =
     tie.close
     (tie.spec
     lookup-number-requires

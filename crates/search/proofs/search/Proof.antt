@@ -1,7 +1,7 @@
 -- `search`. It is refused by its number, or accepted.
 use Rattle.definition.specs.Refusals.{SearchCall}
 use Rattle.checks_number.specs.SearchNumber.{call_of}
-use Rattle.search.specs.Statement.{beside-accepted, search-refused, search-done}
+use Rattle.search.specs.Statement.{beside-accepted, search_refused, search_done_lem}
 use borrow.Author.Rules.{rules}
 use Rattle.search.proofs.search.Statement.{statement}
 use Rattle.search.proofs.search.Tie as tie
@@ -23,13 +23,13 @@ returns : tie.Need-returns
 returns c =
     let n = c.before.before in
     let s = n.before.before.before.before.before.before.before.before in
-    search-refused (asked s) _ n.search-number.ensures c.before.if1.true _ c.refused.ensures
+    search_refused (asked s) _ n.search_number_lem.ensures c.before.if1.true _ c.refused.ensures
 
 search-accepted-requires : tie.Need-search-accepted-requires
 search-accepted-requires c κs =
     let n = c.before.before.before.before.before in
     let s = n.before.before.before.before.before.before.before.before in
-    (beside-accepted (asked s) _ _ n.search-number.ensures c.before.before.before.before.if1.false).0
+    (beside-accepted (asked s) _ _ n.search_number_lem.ensures c.before.before.before.before.if1.false).0
 
 same_length : tie.Need-same-length
 same_length c = search rules
@@ -48,10 +48,10 @@ returns-2 c =
     let k = c.before.before.before.before.before.before.before.before in
     let n = k.before.before.before.before.before.before in
     let s = n.before.before.before.before.before.before.before.before in
-    search-done (asked s) _ n.search-number.ensures k.before.before.before.before.before.if1.false _ k.search-accepted.ensures
+    search_done_lem (asked s) _ n.search_number_lem.ensures k.before.before.before.before.before.if1.false _ k.search_accepted.ensures
 
-pub search-spec : {M : Type 1} → statement M
-search-spec =
+pub search_spec : {M : Type 1} → statement M
+search_spec =
     tie.close
     (tie.spec
     search-number-requires

@@ -1,7 +1,7 @@
 -- `search_accepted`. Its table keeps the search rule, so that the call as cleaned is the call.
 use Rattle.definition.specs.Refusals.{SearchCall}
 use Rattle.checks_number.specs.SearchNumber.{call_of}
-use Rattle.search.specs.Statement.{searched-same, cleaned-accepted, cleaned-searched}
+use Rattle.search.specs.Statement.{searched-same, cleaned_accepted, cleaned-searched}
 use borrow.Author.Rules.{rules}
 use Rattle.search.proofs.search_accepted.Statement.{statement}
 use Rattle.search.proofs.search_accepted.Tie as tie
@@ -16,7 +16,7 @@ asked s =
 lookup-accepted-requires : tie.Need-lookup-accepted-requires
 lookup-accepted-requires c κs =
     let s = c.before.before.before.before.before.before.before.before.before.before.before in
-    cleaned-accepted (asked s) s.requires
+    cleaned_accepted (asked s) s.requires
 
 searched-requires : tie.Need-searched-requires
 searched-requires c κs = search rules
@@ -39,8 +39,8 @@ returns c =
     let s = l.before.before.before.before.before.before.before.before.before.before.before.before in
     searched-same c.searched.ensures (cleaned-searched (asked s) s.requires _ l.lookup-accepted.ensures)
 
-pub search-accepted-spec : {M : Type 1} → statement M
-search-accepted-spec =
+pub search_accepted_spec : {M : Type 1} → statement M
+search_accepted_spec =
     tie.close
     (tie.spec
     lookup-accepted-requires

@@ -2,9 +2,9 @@
 use mathlib.Core.Path.{refl}
 use mathlib.Core.List.{[]}
 use Rattle.definition.specs.Refusals.{SearchCall}
-use Rattle.definition.specs.Outcome.{cleanedCall}
+use Rattle.definition.specs.Outcome.{cleaned_call}
 use Rattle.checks_number.specs.SearchNumber.{call_of}
-use Rattle.search.proofs.Passing.{start-ground, start-room, list-room, answered}
+use Rattle.search.proofs.Passing.{start_ground, start_room, list_room, answered}
 use borrow.Author.Rules.{rules}
 use Rattle.search.proofs.walk_answers.Statement.{statement}
 use Rattle.search.proofs.walk_answers.Tie as tie
@@ -13,7 +13,7 @@ use Rattle.search.proofs.walk_answers.Tie as tie
 abbrev asked : tie.Start → SearchCall
 asked s =
     let a = s.args in
-    cleanedCall (call_of a.n a.dim a.vectors.now a.degree a.beam a.k a.start a.table.now a.query.now
+    cleaned_call (call_of a.n a.dim a.vectors.now a.degree a.beam a.k a.start a.table.now a.query.now
     a.words.now [] a.ids.now a.dists.now)
 
 -- back to the entry: from the beam, from the walk
@@ -33,13 +33,13 @@ slice-aggregate-greedy : tie.Need-slice-aggregate-greedy
 slice-aggregate-greedy c = search rules
 
 greedy-requires : tie.Need-greedy-requires
-unfolding cleanedCall
+unfolding cleaned_call
 greedy-requires c κs =
     let b = c.before.before in
     let s = at-beam b in
     let walkable = s.pre.0 in (
-      (s.pre.1.0, start-room (asked s) walkable s.args.table.now refl _ s.pre.1.1 _ b.raised.ensures),
-      (refl, (start-ground (asked s) walkable s.args.table.now refl _, walkable.start-in)),
+      (s.pre.1.0, start_room (asked s) walkable s.args.table.now refl _ s.pre.1.1 _ b.raised.ensures),
+      (refl, (start_ground (asked s) walkable s.args.table.now refl _, walkable.start_in)),
     )
 
 least-requires : tie.Need-least-requires
@@ -49,12 +49,12 @@ slice-aggregate-list-answers : tie.Need-slice-aggregate-list-answers
 slice-aggregate-list-answers c = search rules
 
 list-answers-requires : tie.Need-list-answers-requires
-unfolding cleanedCall
+unfolding cleaned_call
 list-answers-requires c κs =
     let l = c.before.before.before in
     let g = l.before.before.before.before in
     let s = at-walk g in
-    list-room (asked s) s.pre.0 s.args.table.now refl _ s.pre.1.1 _ (beam g).raised.ensures
+    list_room (asked s) s.pre.0 s.args.table.now refl _ s.pre.1.1 _ (beam g).raised.ensures
     _ _ _ g.greedy.ensures _ l.least.ensures g.greedy.auto.1.0
 
 same_length : tie.Need-same-length
@@ -67,7 +67,7 @@ same-length-3 : tie.Need-same-length-3
 same-length-3 c = search rules
 
 returns : tie.Need-returns
-unfolding cleanedCall
+unfolding cleaned_call
 returns c =
     let t = c.before.before.before.before in
     let l = t.before.before.before.before in
@@ -76,8 +76,8 @@ returns c =
     answered (asked s) s.pre.0 s.args.table.now refl _ s.pre.1.1 _ (beam g).raised.ensures
     _ _ _ g.greedy.ensures _ l.least.ensures _ t.list-answers.ensures
 
-pub walk-answers-spec : {M : Type 1} → statement M
-walk-answers-spec =
+pub walk_answers_spec : {M : Type 1} → statement M
+walk_answers_spec =
     tie.close
     (tie.spec
     raised-requires

@@ -21,8 +21,8 @@ returns c =
     let k = c.before.before.before.before in
     wiped _ _ _ (rw k.before.before.before.search-end.ensures at k.clear-front.ensures)
 
-pub wipe-spec : {M : Type 1} → statement M
-wipe-spec =
+pub wipe_spec : {M : Type 1} → statement M
+wipe_spec =
     tie.close
     (tie.spec
     search-end-requires

@@ -1,7 +1,7 @@
 -- `answer_text`: 13 for a text that is too long, and the answer of the values that it says for any other.
 use Prim.Native.Nat.{◌-◌}
 use borrow.Author.Rules.{rules}
-use Rattle.seek_answer.proofs.Texts.{text-long, text-read}
+use Rattle.seek_answer.proofs.Texts.{text_long, text_read}
 use Rattle.seek_answer.proofs.answer_text.Statement.{statement}
 use Rattle.seek_answer.proofs.answer_text.Tie as tie
 
@@ -12,7 +12,7 @@ same_length : tie.Need-same-length
 same_length c = search rules
 
 returns : tie.Need-returns
-returns c = text-long _ c.before.before.before.before.if1.true c.before.before.Put-refused.ensures
+returns c = text_long _ c.before.before.before.before.if1.true c.before.before.Put-refused.ensures
 
 read-values-requires : tie.Need-read-values-requires
 read-values-requires c κs = search rules
@@ -57,10 +57,10 @@ returns-2 : tie.Need-returns-2
 returns-2 c =
     let answered = c.before.before.before.before.before.before.before.before.before.before.before.before.before.before in
     let read = answered.before.before.before.before.before.before.before.before.before.before.before.before in
-    text-read read.before.before.if1.false read.read-values.ensures answered.answer-values.ensures
+    text_read read.before.before.if1.false read.read-values.ensures answered.answer-values.ensures
 
-pub answer-text-spec : {M : Type 1} → statement M
-answer-text-spec =
+pub answer_text_spec : {M : Type 1} → statement M
+answer_text_spec =
     tie.close
     (tie.spec
     put-refused-requires

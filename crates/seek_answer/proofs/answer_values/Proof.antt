@@ -3,7 +3,7 @@ use mathlib.Core.Path.{sym, ◌∙◌}
 use Prim.Native.Nat.{◌-◌}
 use native.Mathlib.Omega.{arith}
 use borrow.Author.Rules.{rules}
-use Rattle.seek_answer.proofs.Texts.{values-bad, values-good}
+use Rattle.seek_answer.proofs.Texts.{values_bad, values_good}
 use borrow.Author.Tests.{not-true, not-false}
 use Rattle.seek_answer.proofs.answer_values.Statement.{statement}
 use Rattle.seek_answer.proofs.answer_values.Tie as tie
@@ -27,7 +27,7 @@ returns : tie.Need-returns
 returns c =
     let refused = c.before.before.before.before in
     let taken = refused.before.before.before.before.before in
-    values-bad taken.take-search.ensures (not-true _ refused.if1.true) c.before.before.Put-refused.ensures
+    values_bad taken.take-search.ensures (not-true _ refused.if1.true) c.before.before.Put-refused.ensures
 
 search-values-requires : tie.Need-search-values-requires
 search-values-requires c κs =
@@ -37,13 +37,13 @@ search-values-requires c κs =
     let r = taken.before.before.before.before.before.before.before.before.before.before.before.requires in (
       taken.take-search.ensures.ready (not-false _ well.if1.false),
       record {
-        vectors-room = omega (arith, r.vectors-room, k.1.0);
-        query-room = omega (arith, r.query-room, k.1.1.0);
-        words-room = r.words-room;
-        floats-room = r.floats-room;
+        vectors_room = omega (arith, r.vectors_room, k.1.0);
+        query_room = omega (arith, r.query_room, k.1.1.0);
+        words_room = r.words_room;
+        floats_room = r.floats_room;
         ids-room = r.ids-room;
-        dists-room = r.dists-room;
-        out-room = r.out-room;
+        dists_room = r.dists_room;
+        out_room = r.out_room;
       },
     )
 
@@ -73,10 +73,10 @@ returns-2 c =
     let searched = c.before.before.before.before.before.before.before.before.before.before in
     let well = searched.before.before.before.before.before.before.before.before in
     let taken = well.before.before.before.before.before in
-    values-good _ (sym taken.take-search.ensures.says ∙ not-false _ well.if1.false) searched.search-values.ensures
+    values_good _ (sym taken.take-search.ensures.says ∙ not-false _ well.if1.false) searched.search-values.ensures
 
-pub answer-values-spec : {M : Type 1} → statement M
-answer-values-spec =
+pub answer_values_spec : {M : Type 1} → statement M
+answer_values_spec =
     tie.close
     (tie.spec
     take-search-requires

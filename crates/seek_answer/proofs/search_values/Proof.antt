@@ -6,7 +6,7 @@ use lib.ListN.{length}
 use borrow.Author.Rules.{rules}
 use Rattle.definition.specs.Outcome.{SearchOut}
 use Rattle.seek_print.specs.Printed.{put_same}
-use Rattle.seek_answer.proofs.Calls.{Told, search-tells}
+use Rattle.seek_answer.proofs.Calls.{Told, search_tells}
 use Rattle.seek_answer.proofs.search_values.Statement.{statement}
 use Rattle.seek_answer.proofs.search_values.Tie as tie
 
@@ -27,12 +27,12 @@ told : (c : tie.After-search) → Told (entry c).args.vals.now (entry c).args.id
 told c =
     let p = placed c in
     let read = c.before.before.before.before.before.before.before.before in
-    search-tells (entry c).requires.0 (entry c).requires.1 p.before.before.before.the-n.ensures p.before.before.the-dim.ensures
+    search_tells (entry c).requires.0 (entry c).requires.1 p.before.before.before.the-n.ensures p.before.before.the-dim.ensures
     p.before.the-degree.ensures read.before.before.index_of.ensures read.index-of2.ensures p.find-places.ensures {o = left c} c.search.ensures
 
 -- ids and distances are as many after the search
-ids-kept : (c : tie.After-search) → length (left c).ids ≡ length (entry c).args.ids.now
-ids-kept c = c.search.auto.1.1.1.1.1.1.1.1.1.1.1.0
+ids_kept : (c : tie.After-search) → length (left c).ids ≡ length (entry c).args.ids.now
+ids_kept c = c.search.auto.1.1.1.1.1.1.1.1.1.1.1.0
 
 the-n-requires : tie.Need-the-n-requires
 the-n-requires c κs = search rules
@@ -100,7 +100,7 @@ search-requires c κs = search rules
 put-refused-requires : tie.Need-put-refused-requires
 put-refused-requires c κs =
     let searched = c.before.before.before.before.before.before.before.before.before.before in
-    omega (arith, (entry searched).requires.1.out-room)
+    omega (arith, (entry searched).requires.1.out_room)
 
 same_length : tie.Need-same-length
 same_length c = search rules
@@ -127,9 +127,9 @@ put-found-requires c κs =
     let zero = c.before.before.before in
     let searched = zero.before.before.before.before.before.before.before.before.before in
     let room = (entry searched).requires.1 in
-    let few = (told searched).few zero.if1.false (ids-kept searched) in
+    let few = (told searched).few zero.if1.false (ids_kept searched) in
     let dists = searched.search.auto.1.1.1.1.1.1.1.1.1.1.1.1.0 in (
-      (omega (arith, few, ids-kept searched), omega (arith, few, dists, room.dists-room), omega (arith, few, room.out-room)),
+      (omega (arith, few, ids_kept searched), omega (arith, few, dists, room.dists_room), omega (arith, few, room.out_room)),
       (told searched).whole zero.if1.false,
     )
 
@@ -154,8 +154,8 @@ returns-2 c =
     let searched = zero.before.before.before.before.before.before.before.before.before in
     put_same ((told searched).text zero.if1.false) c.before.before.put-found.ensures
 
-pub search-values-spec : {M : Type 1} → statement M
-search-values-spec =
+pub search_values_spec : {M : Type 1} → statement M
+search_values_spec =
     tie.close
     (tie.spec
     the-n-requires

@@ -1,6 +1,6 @@
 -- `answer_input`: the buffer holds more than the longest text.
 use borrow.Author.Rules.{rules}
-use Rattle.definition.specs.Seek.{mostInput}
+use Rattle.definition.specs.Seek.{most_input}
 use Rattle.seek_input.proofs.answer_input.Statement.{statement}
 use Rattle.seek_input.proofs.answer_input.Tie as tie
 
@@ -8,7 +8,7 @@ slice-aggregate-read-text : tie.Need-slice-aggregate-read-text
 slice-aggregate-read-text c = search rules
 
 read-text-requires : tie.Need-read-text-requires
-unfolding mostInput
+unfolding most_input
 read-text-requires c κs = search rules
 
 slice-aggregate-print-answer : tie.Need-slice-aggregate-print-answer
@@ -20,8 +20,8 @@ print-answer-requires c κs = search rules
 returns : tie.Need-returns
 returns c = search rules
 
-pub answer-input-spec : {M : Type 1} → statement M
-answer-input-spec =
+pub answer_input_spec : {M : Type 1} → statement M
+answer_input_spec =
     tie.close
     (tie.spec
     slice-aggregate-read-text

@@ -1,7 +1,7 @@
 -- `print_answer`: the arrays are room enough, what is put fits in `out`, and it is handed over whole.
 use borrow.Author.Rules.{rules}
 use Rattle.seek_print.specs.Printed.{put-fits, put-length}
-use Rattle.seek_input.specs.Streams.{put-handed}
+use Rattle.seek_input.specs.Streams.{put_handed}
 use Rattle.seek_input.proofs.print_answer.Statement.{statement}
 use Rattle.seek_input.proofs.print_answer.Tie as tie
 
@@ -53,13 +53,13 @@ write-answer-requires : tie.Need-write-answer-requires
 write-answer-requires c κs =
     let answered = c.before.before.before.before.before.before.before.before.before in
     let s = answered.before.before.before.before.before.before.before.before.before.before.before in
-    put-handed s.args.text.now s.args.count answered.answer-text.ensures
+    put_handed s.args.text.now s.args.count answered.answer-text.ensures
 
 returns : tie.Need-returns
 returns c = search rules
 
-pub print-answer-spec : {M : Type 1} → statement M
-print-answer-spec =
+pub print_answer_spec : {M : Type 1} → statement M
+print_answer_spec =
     tie.close
     (tie.spec
     sub-answer-text

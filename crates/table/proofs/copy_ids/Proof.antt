@@ -6,7 +6,7 @@ use native.Mathlib.Omega.{arith}
 use lib.ListN.{length, length-set}
 use borrow.Author.Rules.{rules}
 use Rattle.definition.specs.Tables.{pad}
-use Rattle.table.proofs.Copying.{Copying, copy_start, copy-id, copy-pad, copy-same, copy-end}
+use Rattle.table.proofs.Copying.{Copying, copy_start, copy_id, copy_pad, copy_same, copy_end}
 use Rattle.table.proofs.copy_ids.Statement.{statement}
 use Rattle.table.proofs.copy_ids.Tie as tie
 
@@ -46,18 +46,18 @@ loop-again c =
     let s = c.before.before in
     let l = s.before.loop in
     ⊎_elim
-    (λ w. (copy-same _ _ _ _ _ _ w.1 w.2 (copy-id _ _ _ _ l.invariant.0 s.loop-test.true w.0.taken), ap length w.1 ∙ simp length-set l.invariant.1))
-    (λ w. (copy-same _ _ _ _ _ _ w.1 w.2 (copy-pad _ _ _ _ l.invariant.0 s.loop-test.true w.0.left), ap length w.1 ∙ l.invariant.1))
+    (λ w. (copy_same _ _ _ _ _ _ w.1 w.2 (copy_id _ _ _ _ l.invariant.0 s.loop-test.true w.0.taken), ap length w.1 ∙ simp length-set l.invariant.1))
+    (λ w. (copy_same _ _ _ _ _ _ w.1 w.2 (copy_pad _ _ _ _ l.invariant.0 s.loop-test.true w.0.left), ap length w.1 ∙ l.invariant.1))
     c.if1.branch
 
 same_length : tie.Need-same-length invariant-loop decreases-loop
 same_length c = search rules
 
 returns : tie.Need-returns invariant-loop decreases-loop
-returns c = copy-end _ _ _ _ c.before.loop.invariant.0 (omega (arith, c.loop-test.false))
+returns c = copy_end _ _ _ _ c.before.loop.invariant.0 (omega (arith, c.loop-test.false))
 
-pub copy-ids-spec : {M : Type 1} → statement M
-copy-ids-spec =
+pub copy_ids_spec : {M : Type 1} → statement M
+copy_ids_spec =
     tie.close
     (tie.spec
     invariant-loop

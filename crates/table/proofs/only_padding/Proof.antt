@@ -5,10 +5,10 @@ use Prim.Native.Nat.{◌-◌}
 use native.Mathlib.Omega.{arith}
 use lib.ListN.{length}
 use borrow.Author.Rules.{rules}
-use Rattle.laws.specs.Looked.{Looked, look-start, look-bad, look-good, look_none}
+use Rattle.laws.specs.Looked.{Looked, look-start, look_bad, look_good, look_none}
 use borrow.Author.Tests.{eq-eqb, ne_eqb}
 use lib.Dec.{eqb}
-use Rattle.definition.specs.Tables.{pad, onlyPad}
+use Rattle.definition.specs.Tables.{pad, only_pad}
 use Rattle.table.proofs.only_padding.Statement.{statement}
 use Rattle.table.proofs.only_padding.Tie as tie
 
@@ -34,22 +34,22 @@ loop-less : tie.Need-loop-smaller invariant-loop decreases-loop
 loop-less c = omega arith
 
 loop-again : tie.Need-loop-preserved invariant-loop decreases-loop
-unfolding onlyPad pad
+unfolding only_pad pad
 loop-again c =
     let s = c.before.before in let t = s.before in let u = t.before in
     ⊎_elim
-    (λ w. subst (Looked _ _ _) (sym w.1) (look-bad
+    (λ w. subst (Looked _ _ _) (sym w.1) (look_bad
     (λ w. eqb w pad) u.args.words.now t.loop.i t.loop.found t.loop.invariant s.loop-test.true (ne_eqb _ _ w.0.taken)))
-    (λ w. subst (Looked _ _ _) (sym w.1) (look-good
+    (λ w. subst (Looked _ _ _) (sym w.1) (look_good
     (λ w. eqb w pad) u.args.words.now t.loop.i t.loop.found t.loop.invariant s.loop-test.true (eq-eqb _ _ w.0.left)))
     c.if1.branch
 
 returns : tie.Need-returns invariant-loop decreases-loop
-unfolding onlyPad pad
+unfolding only_pad pad
 returns c = look_none _ _ _ _ c.before.loop.invariant c.loop-test.false
 
-pub only-padding-spec : {M : Type 1} → statement M
-only-padding-spec =
+pub only_padding_spec : {M : Type 1} → statement M
+only_padding_spec =
     tie.close
     (tie.spec
     invariant-loop

@@ -4,7 +4,7 @@ use Prim.Native.Nat.{◌-◌, ◌≤◌}
 use native.Mathlib.Omega.{arith}
 use lib.ListN.{length, take, length-set}
 use Rattle.definition.specs.Tables.{pad, padded}
-use Rattle.table.proofs.Padding.{padded-turn, padded-end}
+use Rattle.table.proofs.Padding.{padded-turn, padded_end}
 use borrow.Author.Rules.{rules}
 use Rattle.table.proofs.pad_from.Statement.{statement}
 use Rattle.table.proofs.pad_from.Tie as tie
@@ -41,10 +41,10 @@ same_length : tie.Need-same-length invariant-loop decreases-loop
 same_length c = search rules
 
 returns : tie.Need-returns invariant-loop decreases-loop
-returns c = let l = c.before.loop in sym (padded-end l.row l.i (omega arith)) ∙ l.invariant.1.1
+returns c = let l = c.before.loop in sym (padded_end l.row l.i (omega arith)) ∙ l.invariant.1.1
 
-pub pad-from-spec : {M : Type 1} → statement M
-pad-from-spec =
+pub pad_from_spec : {M : Type 1} → statement M
+pad_from_spec =
     tie.close
     (tie.spec
     invariant-loop

@@ -33,8 +33,8 @@ same_length c = search rules
 returns : tie.Need-returns
 returns c = stretched _ _ _ _ _ _ (omega arith) (record { count = refl; words = c.before.before.write-padded.ensures })
 
-pub put-row-spec : {M : Type 1} → statement M
-put-row-spec =
+pub put_row_spec : {M : Type 1} → statement M
+put_row_spec =
     tie.close
     (tie.spec
     mul_at

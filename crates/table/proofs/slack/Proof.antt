@@ -15,5 +15,5 @@ returns : tie.Need-returns
 unfolding slack
 returns c = refl
 
-pub slack-spec : {M : Type 1} → statement M
-slack-spec = tie.close (tie.spec mul-result add-result returns)
+pub slack_spec : {M : Type 1} → statement M
+slack_spec = tie.close (tie.spec mul-result add-result returns)

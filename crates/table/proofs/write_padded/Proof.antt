@@ -63,8 +63,8 @@ returns c =
     let all : take (length ids) l.row ≡ ids = rw (← end) (l.invariant.1.1 ∙ take_all l.i ids (omega arith)) in
     s.pad-from.ensures ∙ ap₂ padded l.invariant.1.0 all
 
-pub write-padded-spec : {M : Type 1} → statement M
-write-padded-spec =
+pub write_padded_spec : {M : Type 1} → statement M
+write_padded_spec =
     tie.close
     (tie.spec
     invariant-loop

@@ -30,8 +30,8 @@ loop-again c = omega arith
 returns : tie.Need-returns invariant-loop decreases-loop
 returns c = search rules
 
-pub replay-cases-spec : {M : Type 1} → statement M
-replay-cases-spec =
+pub replay_cases_spec : {M : Type 1} → statement M
+replay_cases_spec =
     tie.close
     (tie.spec
     invariant-loop

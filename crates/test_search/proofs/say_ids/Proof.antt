@@ -39,8 +39,8 @@ loop-again c = tt
 returns : tie.Need-returns invariant-loop decreases-loop
 returns c = search rules
 
-pub say-ids-spec : {M : Type 1} → statement M
-say-ids-spec =
+pub say_ids_spec : {M : Type 1} → statement M
+say_ids_spec =
     tie.close
     (tie.spec
     invariant-loop

@@ -39,8 +39,8 @@ loop-again c = tt
 returns : tie.Need-returns invariant-loop decreases-loop
 returns c = search rules
 
-pub sum-between-spec : {M : Type 1} → statement M
-sum-between-spec =
+pub sum_between_spec : {M : Type 1} → statement M
+sum_between_spec =
     tie.close
     (tie.spec
     invariant-loop

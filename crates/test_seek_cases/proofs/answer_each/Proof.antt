@@ -45,8 +45,8 @@ loop-again c = tt
 returns : tie.Need-returns invariant-loop decreases-loop
 returns c = search rules
 
-pub answer-each-spec : {M : Type 1} → statement M
-answer-each-spec =
+pub answer_each_spec : {M : Type 1} → statement M
+answer_each_spec =
     tie.close
     (tie.spec
     invariant-loop

@@ -33,8 +33,8 @@ loop-again c = search rules
 returns-2 : tie.Need-returns-2 invariant-loop decreases-loop
 returns-2 c = search rules
 
-pub text-end-spec : {M : Type 1} → statement M
-text-end-spec =
+pub text_end_spec : {M : Type 1} → statement M
+text_end_spec =
     tie.close
     (tie.spec
     invariant-loop

@@ -38,8 +38,8 @@ same_length c = search rules
 returns : tie.Need-returns invariant-loop decreases-loop
 returns c = c.before.loop.invariant.1
 
-pub copy-bytes-spec : {M : Type 1} → statement M
-copy-bytes-spec =
+pub copy_bytes_spec : {M : Type 1} → statement M
+copy_bytes_spec =
     tie.close
     (tie.spec
     invariant-loop

@@ -24,6 +24,6 @@ loop-again c = omega arith
 returns : tie.Need-returns invariant-loop decreases-loop
 returns c = search rules
 
-pub float-word-spec : {M : Type 1} → statement M
-float-word-spec =
+pub float_word_spec : {M : Type 1} → statement M
+float_word_spec =
     tie.close (tie.spec invariant-loop decreases-loop loop-holds at-least-requires loop-less loop-again returns)

@@ -36,8 +36,8 @@ loop-again c = omega arith
 returns : tie.Need-returns invariant-loop decreases-loop
 returns c = search rules
 
-pub floats-sum-spec : {M : Type 1} → statement M
-floats-sum-spec =
+pub floats_sum_spec : {M : Type 1} → statement M
+floats_sum_spec =
     tie.close
     (tie.spec
     invariant-loop

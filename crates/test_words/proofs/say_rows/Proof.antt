@@ -36,8 +36,8 @@ loop-again c = omega arith
 returns : tie.Need-returns invariant-loop decreases-loop
 returns c = search rules
 
-pub say-rows-spec : {M : Type 1} → statement M
-say-rows-spec =
+pub say_rows_spec : {M : Type 1} → statement M
+say_rows_spec =
     tie.close
     (tie.spec
     invariant-loop

@@ -33,8 +33,8 @@ loop-again c = omega arith
 returns : tie.Need-returns invariant-loop decreases-loop
 returns c = search rules
 
-pub words-sum-spec : {M : Type 1} → statement M
-words-sum-spec =
+pub words_sum_spec : {M : Type 1} → statement M
+words_sum_spec =
     tie.close
     (tie.spec
     invariant-loop

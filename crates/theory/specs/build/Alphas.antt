@@ -13,19 +13,19 @@ use Rattle.definition.specs.Lists.{keep, rising, groups}
 use Rattle.definition.specs.Tables.{padded, table_of}
 use Rattle.definition.specs.Floats.{nought, one, larger}
 use Rattle.definition.specs.Slack.{slack}
-use Rattle.definition.specs.Prune.{target_of, rounds, mostRounds, candidates, measured, prunedFrom, prune}
-use Rattle.definition.specs.Batch.{Setting, Listed, pruneIds, wideRow, wideIds, collected, pool, fresh_of, freshRows, naming, affected, base, mergedIds, fitted}
-use Rattle.definition.specs.Batch.{mergedRow, merged, batch}
-use Rattle.definition.specs.Build.{closedIds, close, batchSize, batches}
+use Rattle.definition.specs.Prune.{target_of, rounds, most_rounds, candidates, measured, pruned_from, prune}
+use Rattle.definition.specs.Batch.{Setting, Listed, prune_ids, wide_row, wide_ids, collected, pool, fresh_of, fresh_rows, naming, affected, base, merged_ids, fitted}
+use Rattle.definition.specs.Batch.{merged_row, merged, batch}
+use Rattle.definition.specs.Build.{closed_ids, close, batch_size, batches}
 
 -- an alpha below 1.0 is not above it
-pub below-not-above : (alpha : Float) → lt alpha one ≡ true → lt one alpha ≡ false
+pub below_not_above : (alpha : Float) → lt alpha one ≡ true → lt one alpha ≡ false
 unfolding lt one of_bits
-below-not-above nan h = refl
-below-not-above (inf true) h = refl
-below-not-above (inf false) h = absurd (false≢true h)
-below-not-above (fin true m e) h = refl
-below-not-above (fin false m e) h = let k = ltb-true (m * up e * 1) (1 * down e) h in le-ltb (1 * down e) (m * up e * 1) (omega arith)
+below_not_above nan h = refl
+below_not_above (inf true) h = refl
+below_not_above (inf false) h = absurd (false≢true h)
+below_not_above (fin true m e) h = refl
+below_not_above (fin false m e) h = let k = ltb-true (m * up e * 1) (1 * down e) h in le-ltb (1 * down e) (m * up e * 1) (omega arith)
 
 pub target_one : (alpha : Float) → lt one alpha ≡ false → target_of alpha ≡ target_of one
 unfolding target_of larger
@@ -39,58 +39,58 @@ module _ (n : ℕ) (pair : ℕ → ℕ → ℕ) (degree beam : ℕ) (a b : Float
   abbrev pub by : Float → Setting
   by alpha = record { n = n; pair = pair; degree = degree; beam = beam; alpha = alpha }
 
-  prune-alike : (node : ℕ) (xs : List ℕ) → pruneIds (by a) node xs ≡ pruneIds (by b) node xs
-  unfolding pruneIds prune prunedFrom
-  prune-alike node xs =
+  prune_alike : (node : ℕ) (xs : List ℕ) → prune_ids (by a) node xs ≡ prune_ids (by b) node xs
+  unfolding prune_ids prune pruned_from
+  prune_alike node xs =
       let cs = candidates node (measured (pair node) xs) in
-      ap (λ (t : Float). rounds pair t mostRounds one degree cs (replicate (length cs) nought)) same
+      ap (λ (t : Float). rounds pair t most_rounds one degree cs (replicate (length cs) nought)) same
 
-  pub close-alike : (wide : List ℕ) → close (by a) wide ≡ close (by b) wide
-  unfolding close closedIds wideIds wideRow
-  close-alike wide =
-      let ids : ℕ → List ℕ = wideIds (by a) wide in
-      λ k. table_of n (λ i. padded degree (cond (ltb degree (length (ids i))) (prune-alike i (rising (ids i)) k) (ids i)))
+  pub close_alike : (wide : List ℕ) → close (by a) wide ≡ close (by b) wide
+  unfolding close closed_ids wide_ids wide_row
+  close_alike wide =
+      let ids : ℕ → List ℕ = wide_ids (by a) wide in
+      λ k. table_of n (λ i. padded degree (cond (ltb degree (length (ids i))) (prune_alike i (rising (ids i)) k) (ids i)))
 
   module _ (wide : List ℕ) (start : ℕ) where
-    fresh-alike : (us : List ℕ) (gs : List (List ℕ)) → freshRows (by a) wide start us gs ≡ freshRows (by b) wide start us gs
-    unfolding freshRows fresh_of pool collected wideIds wideRow
-    fresh-alike [] gs = refl
-    fresh-alike (u ∷ us) [] = refl
-    fresh-alike (u ∷ us) (s ∷ gs) =
-        λ k. record { node = u; fresh = prune-alike u (pool (by a) wide start u s) k } ∷ fresh-alike us gs k
+    fresh_alike : (us : List ℕ) (gs : List (List ℕ)) → fresh_rows (by a) wide start us gs ≡ fresh_rows (by b) wide start us gs
+    unfolding fresh_rows fresh_of pool collected wide_ids wide_row
+    fresh_alike [] gs = refl
+    fresh_alike (u ∷ us) [] = refl
+    fresh_alike (u ∷ us) (s ∷ gs) =
+        λ k. record { node = u; fresh = prune_alike u (pool (by a) wide start u s) k } ∷ fresh_alike us gs k
 
-  base-alike : (wide : List ℕ) (ls : List Listed) (i : ℕ) → base (by a) wide ls i ≡ base (by b) wide ls i
-  unfolding base wideIds wideRow
-  base-alike wide [] i = refl
-  base-alike wide (l ∷ ls) i = ap (λ (r : List ℕ). cond (eqb i l.node) l.fresh r) (base-alike wide ls i)
+  base_alike : (wide : List ℕ) (ls : List Listed) (i : ℕ) → base (by a) wide ls i ≡ base (by b) wide ls i
+  unfolding base wide_ids wide_row
+  base_alike wide [] i = refl
+  base_alike wide (l ∷ ls) i = ap (λ (r : List ℕ). cond (eqb i l.node) l.fresh r) (base_alike wide ls i)
 
-  fitted-alike : (i : ℕ) (xs : List ℕ) → fitted (by a) i xs ≡ fitted (by b) i xs
+  fitted_alike : (i : ℕ) (xs : List ℕ) → fitted (by a) i xs ≡ fitted (by b) i xs
   unfolding fitted
-  fitted-alike i xs = ap (λ (p : List ℕ). cond (leb (length xs) (slack degree)) xs p) (prune-alike i xs)
+  fitted_alike i xs = ap (λ (p : List ℕ). cond (leb (length xs) (slack degree)) xs p) (prune_alike i xs)
 
-  ids-alike : (wide : List ℕ) (ls : List Listed) (i : ℕ) → mergedIds (by a) wide ls i ≡ mergedIds (by b) wide ls i
-  unfolding mergedIds
-  ids-alike wide ls i = ap (λ (l : List ℕ). rising (keep (λ w. not (eqb w i)) (l ++ naming ls i))) (base-alike wide ls i)
+  ids_alike : (wide : List ℕ) (ls : List Listed) (i : ℕ) → merged_ids (by a) wide ls i ≡ merged_ids (by b) wide ls i
+  unfolding merged_ids
+  ids_alike wide ls i = ap (λ (l : List ℕ). rising (keep (λ w. not (eqb w i)) (l ++ naming ls i))) (base_alike wide ls i)
 
-  row-alike : (wide : List ℕ) (ls : List Listed) (i : ℕ) → mergedRow (by a) wide ls i ≡ mergedRow (by b) wide ls i
-  unfolding mergedRow wideRow
-  row-alike wide ls i =
-      ap (λ (l : List ℕ). cond (affected ls i) (padded (slack degree) l) (wideRow (by a) wide i))
-      (ap (fitted (by a) i) (ids-alike wide ls i) ∙ fitted-alike i (mergedIds (by b) wide ls i))
+  row_alike : (wide : List ℕ) (ls : List Listed) (i : ℕ) → merged_row (by a) wide ls i ≡ merged_row (by b) wide ls i
+  unfolding merged_row wide_row
+  row_alike wide ls i =
+      ap (λ (l : List ℕ). cond (affected ls i) (padded (slack degree) l) (wide_row (by a) wide i))
+      (ap (fitted (by a) i) (ids_alike wide ls i) ∙ fitted_alike i (merged_ids (by b) wide ls i))
 
-  pub batch-alike : (start extra : ℕ) (nodes seeds wide : List ℕ) → batch (by a) start extra nodes seeds wide ≡ batch (by b) start extra nodes seeds wide
+  pub batch_alike : (start extra : ℕ) (nodes seeds wide : List ℕ) → batch (by a) start extra nodes seeds wide ≡ batch (by b) start extra nodes seeds wide
   unfolding batch merged
-  batch-alike start extra nodes seeds wide =
-      ap (merged (by a) wide) (fresh-alike wide start nodes (groups (length nodes) extra seeds))
-      ∙ (λ k. table_of n (λ i. row-alike wide (freshRows (by b) wide start nodes (groups (length nodes) extra seeds)) i k))
+  batch_alike start extra nodes seeds wide =
+      ap (merged (by a) wide) (fresh_alike wide start nodes (groups (length nodes) extra seeds))
+      ∙ (λ k. table_of n (λ i. row_alike wide (fresh_rows (by b) wide start nodes (groups (length nodes) extra seeds)) i k))
 
-  pub batches-alike : (start extra fuel : ℕ) (order seeds wide : List ℕ)
+  pub batches_alike : (start extra fuel : ℕ) (order seeds wide : List ℕ)
       → batches (by a) start extra fuel order seeds wide ≡ batches (by b) start extra fuel order seeds wide
   unfolding batches
-  batches-alike start extra zero order seeds wide = refl
-  batches-alike start extra (suc fuel) [] seeds wide = refl
-  batches-alike start extra (suc fuel) (u ∷ us) seeds wide =
-      ap (batches (by a) start extra fuel (drop batchSize (u ∷ us)) (drop (batchSize * extra) seeds))
-      (batch-alike start extra (take batchSize (u ∷ us)) (take (batchSize * extra) seeds) wide)
-      ∙ batches-alike start extra fuel (drop batchSize (u ∷ us)) (drop (batchSize * extra) seeds)
-      (batch (by b) start extra (take batchSize (u ∷ us)) (take (batchSize * extra) seeds) wide)
+  batches_alike start extra zero order seeds wide = refl
+  batches_alike start extra (suc fuel) [] seeds wide = refl
+  batches_alike start extra (suc fuel) (u ∷ us) seeds wide =
+      ap (batches (by a) start extra fuel (drop batch_size (u ∷ us)) (drop (batch_size * extra) seeds))
+      (batch_alike start extra (take batch_size (u ∷ us)) (take (batch_size * extra) seeds) wide)
+      ∙ batches_alike start extra fuel (drop batch_size (u ∷ us)) (drop (batch_size * extra) seeds)
+      (batch (by b) start extra (take batch_size (u ∷ us)) (take (batch_size * extra) seeds) wide)

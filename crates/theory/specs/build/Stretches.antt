@@ -7,25 +7,25 @@ use mathlib.Core.List.Memᴰ.{not-nil}
 use mathlib.Core.List.{List, ◌++◌, Memᴰ as Mem}
 use Rattle.std.proofs.Math.ListN.{drop_of_length-le}
 use Rattle.definition.specs.Lists.{groups}
-use Rattle.definition.specs.Refusals.{goodGroup}
+use Rattle.definition.specs.Refusals.{good_group}
 use Rattle.laws.specs.Truth.{decide}
-use Rattle.laws.specs.Members.{take-mem, drop-mem, groups-add}
-use Rattle.laws.specs.Apart.{Apart, nobody, apart-take, apart-drop}
+use Rattle.laws.specs.Members.{take_mem, drop_mem, groups_add}
+use Rattle.laws.specs.Apart.{Apart, nobody, apart_take, apart_drop}
 
 -- distinct nodes below n, with a good group of seeds each
 pub record Stretch (n start extra : ℕ) (order seeds : List ℕ) : Type 0 where
   pub below : (u : ℕ) → Mem u order → u < n
   pub once : Apart order
   pub size : length seeds ≡ length order * extra
-  pub good : (group : List ℕ) → Mem group (groups (length order) extra seeds) → goodGroup n start group ≡ true
+  pub good : (group : List ℕ) → Mem group (groups (length order) extra seeds) → good_group n start group ≡ true
 
 -- each of the two has as many seeds as its nodes ask for
 pub record SeedsCut (extra k : ℕ) (order seeds : List ℕ) : Type 0 where
   pub taken : length (take (k * extra) seeds) ≡ length (take k order) * extra
   pub dropped : length (drop (k * extra) seeds) ≡ length (drop k order) * extra
 
-pub seeds-cut : (extra k : ℕ) (order seeds : List ℕ) → length seeds ≡ length order * extra → SeedsCut extra k order seeds
-seeds-cut extra k order seeds size =
+pub seeds_cut : (extra k : ℕ) (order seeds : List ℕ) → length seeds ≡ length order * extra → SeedsCut extra k order seeds
+seeds_cut extra k order seeds size =
     decide (leb k (length order)) (λ t. within (leb-true k (length order) t)) (λ f. let l = leb-false k (length order) f in past (omega arith))
   where
     within : k ≤ length order → SeedsCut extra k order seeds
@@ -52,15 +52,15 @@ module _ (n start extra k : ℕ) (order seeds : List ℕ) (s : Stretch n start e
     both : groups (length order) extra seeds ≡ groups k extra (take (k * extra) seeds) ++ groups (length order - k) extra (drop (k * extra) seeds)
     both =
         let e : length order ≡ k + (length order - k) = omega arith in
-        ap (λ (l : ℕ). groups l extra seeds) e ∙ groups-add k (length order - k) extra seeds
+        ap (λ (l : ℕ). groups l extra seeds) e ∙ groups_add k (length order - k) extra seeds
 
     taken : Stretch n start extra (take k order) (take (k * extra) seeds)
     taken =
         let l : length (take k order) ≡ k = length-take-le k order h in
         record {
-          below = λ u m. s.below u (take-mem k order m);
-          once = apart-take k s.once;
-          size = (seeds-cut extra k order seeds s.size).taken;
+          below = λ u m. s.below u (take_mem k order m);
+          once = apart_take k s.once;
+          size = (seeds_cut extra k order seeds s.size).taken;
           good = λ group m. s.good group (subst (λ (gs : List (List ℕ)). Mem group gs) (sym both)
               (in_front (groups (length order - k) extra (drop (k * extra) seeds))
               (subst (λ (j : ℕ). Mem group (groups j extra (take (k * extra) seeds))) l m)));
@@ -70,9 +70,9 @@ module _ (n start extra k : ℕ) (order seeds : List ℕ) (s : Stretch n start e
     dropped =
         let l : length (drop k order) ≡ length order - k = length-drop k order in
         record {
-          below = λ u m. s.below u (drop-mem k order m);
-          once = apart-drop k s.once;
-          size = (seeds-cut extra k order seeds s.size).dropped;
+          below = λ u m. s.below u (drop_mem k order m);
+          once = apart_drop k s.once;
+          size = (seeds_cut extra k order seeds s.size).dropped;
           good = λ group m. s.good group (subst (λ (gs : List (List ℕ)). Mem group gs) (sym both)
               (in-back (groups k extra (take (k * extra) seeds))
               (subst (λ (j : ℕ). Mem group (groups j extra (drop (k * extra) seeds))) l m)));
@@ -80,22 +80,22 @@ module _ (n start extra k : ℕ) (order seeds : List ℕ) (s : Stretch n start e
 
   -- the cut lies at or past the end
   module _ (h : length order ≤ k) where
-    seeds-end : length seeds ≤ k * extra
-    seeds-end = subst (λ (l : ℕ). l ≤ k * extra) (sym s.size) (mul-le-mul_right extra h)
+    seeds_end : length seeds ≤ k * extra
+    seeds_end = subst (λ (l : ℕ). l ≤ k * extra) (sym s.size) (mul-le-mul_right extra h)
 
-    all-taken : Stretch n start extra (take k order) (take (k * extra) seeds)
-    all-taken = rw (take_all k order h, take_all (k * extra) seeds seeds-end) s
+    all_taken : Stretch n start extra (take k order) (take (k * extra) seeds)
+    all_taken = rw (take_all k order h, take_all (k * extra) seeds seeds_end) s
 
     none_left : Stretch n start extra (drop k order) (drop (k * extra) seeds)
     unfolding groups
     none_left =
-        rw (drop_of_length-le order h, drop_of_length-le seeds seeds-end)
+        rw (drop_of_length-le order h, drop_of_length-le seeds seeds_end)
         (record { below = λ u m. absurd (not-nil m); once = nobody; size = omega arith; good = λ group m. absurd (not-nil m) })
 
-  pub stretch-taken : Stretch n start extra (take k order) (take (k * extra) seeds)
-  stretch-taken =
-      decide (leb k (length order)) (λ t. taken (leb-true k (length order) t)) (λ f. let l = leb-false k (length order) f in all-taken (omega arith))
+  pub stretch_taken : Stretch n start extra (take k order) (take (k * extra) seeds)
+  stretch_taken =
+      decide (leb k (length order)) (λ t. taken (leb-true k (length order) t)) (λ f. let l = leb-false k (length order) f in all_taken (omega arith))
 
-  pub stretch-dropped : Stretch n start extra (drop k order) (drop (k * extra) seeds)
-  stretch-dropped =
+  pub stretch_dropped : Stretch n start extra (drop k order) (drop (k * extra) seeds)
+  stretch_dropped =
       decide (leb k (length order)) (λ t. dropped (leb-true k (length order) t)) (λ f. let l = leb-false k (length order) f in none_left (omega arith))

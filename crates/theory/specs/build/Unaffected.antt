@@ -5,30 +5,30 @@ use mathlib.Core.List.Memᴰ.{not-nil}
 use mathlib.Core.List.Memᴰ.{tail as there}
 use mathlib.Core.List.{List, [], ◌∷◌, map, Memᴰ as Mem}
 use mathlib.Core.List.Memᴰ.{of_map}
-use Rattle.definition.specs.Lists.{isIn, keep, groups}
+use Rattle.definition.specs.Lists.{is_in, keep, groups}
 use Rattle.definition.specs.Slack.{slack}
-use Rattle.definition.specs.Batch.{Setting, Listed, fresh_of, freshRows, naming, isListed, affected, wideRow, mergedRow, merged, batch}
-use Rattle.laws.specs.Truth.{neither-or}
-use Rattle.laws.specs.Members.{cons-elim, keep-none, none-isIn}
-use Rattle.laws.specs.Tables.{tableOf-row}
+use Rattle.definition.specs.Batch.{Setting, Listed, fresh_of, fresh_rows, naming, is_listed, affected, wide_row, merged_row, merged, batch}
+use Rattle.laws.specs.Truth.{neither_or}
+use Rattle.laws.specs.Members.{cons_elim, keep_none, none-is_in}
+use Rattle.laws.specs.Tables.{table_of_row}
 
 pub batch-none : (g : Setting) (start extra : ℕ) (seeds wide : List ℕ) → length wide ≡ g.n * slack g.degree → batch g start extra [] seeds wide ≡ wide
-unfolding batch freshRows merged mergedRow affected isListed naming wideRow isIn keep groups
-batch-none g start extra seeds wide h = tableOf-row g.n (slack g.degree) wide h
+unfolding batch fresh_rows merged merged_row affected is_listed naming wide_row is_in keep groups
+batch-none g start extra seeds wide h = table_of_row g.n (slack g.degree) wide h
 
 -- the listed nodes of the fresh rows are nodes
-pub fresh-node : (g : Setting) (wide : List ℕ) (start : ℕ) (us : List ℕ) (gs : List (List ℕ)) (l : Listed) → Mem l (freshRows g wide start us gs)
+pub fresh_node : (g : Setting) (wide : List ℕ) (start : ℕ) (us : List ℕ) (gs : List (List ℕ)) (l : Listed) → Mem l (fresh_rows g wide start us gs)
     → Mem l.node us
-unfolding freshRows fresh_of
-fresh-node g wide start [] gs l m = absurd (not-nil m)
-fresh-node g wide start (u ∷ us) [] l m = absurd (not-nil m)
-fresh-node g wide start (u ∷ us) (s ∷ gs) l m =
-    cons-elim (λ k. Mem k.node (u ∷ us)) (fresh_of g wide start u s) (freshRows g wide start us gs) (here refl)
-    (λ k h. there (fresh-node g wide start us gs k h)) l m
+unfolding fresh_rows fresh_of
+fresh_node g wide start [] gs l m = absurd (not-nil m)
+fresh_node g wide start (u ∷ us) [] l m = absurd (not-nil m)
+fresh_node g wide start (u ∷ us) (s ∷ gs) l m =
+    cons_elim (λ k. Mem k.node (u ∷ us)) (fresh_of g wide start u s) (fresh_rows g wide start us gs) (here refl)
+    (λ k h. there (fresh_node g wide start us gs k h)) l m
 
 pub affected-none : (ls : List Listed) (i : ℕ) → ((l : Listed) → Mem l ls → (l.node ≢ i) × ¬ Mem i l.fresh) → affected ls i ≡ false
-unfolding affected isListed naming
+unfolding affected is_listed naming
 affected-none ls i f =
-    neither-or (isIn i (map (λ l. l.node) ls)) (not (eqb (length (map (λ l. l.node) (keep (λ l. isIn i l.fresh) ls))) 0))
-    (none-isIn i (map (λ l. l.node) ls) (λ m. let r = of_map (λ (l : Listed). l.node) ls m in (f r.0 r.1).0 r.2))
-    (rw (keep-none (λ (l : Listed). isIn i l.fresh) ls (λ l m. none-isIn i l.fresh (f l m).1)) refl)
+    neither_or (is_in i (map (λ l. l.node) ls)) (not (eqb (length (map (λ l. l.node) (keep (λ l. is_in i l.fresh) ls))) 0))
+    (none-is_in i (map (λ l. l.node) ls) (λ m. let r = of_map (λ (l : Listed). l.node) ls m in (f r.0 r.1).0 r.2))
+    (rw (keep_none (λ (l : Listed). is_in i l.fresh) ls (λ l m. none-is_in i l.fresh (f l m).1)) refl)

@@ -2,31 +2,31 @@
 use Rattle.std.specs.Prelude.{ℕ, zero, suc, ◌<◌, min, ◌≡◌, refl, true, false, ltb, length}
 use Rattle.std.proofs.Common.{arith, ap, lt-ltb, le-ltb, ne_eqb}
 use Rattle.definition.specs.Lists.{each}
-use Rattle.definition.specs.Draws.{advance, drawn, drawsBelow, pivotsDrawn}
-use Rattle.definition.specs.Refusals.{badPivots}
-use Rattle.laws.specs.Draws.{advance-lt, drawn-lt}
+use Rattle.definition.specs.Draws.{advance, drawn, draws_below, pivots_drawn}
+use Rattle.definition.specs.Refusals.{bad_pivots}
+use Rattle.laws.specs.Draws.{advance_lt, drawn_lt}
 
-draws-below : (n k s : ℕ) → 0 < n → each (λ p. ltb p n) (drawsBelow n k s).words ≡ true
-unfolding drawsBelow each
-draws-below n zero s h = refl
-draws-below n (suc k) s h = rw (lt-ltb (drawn n (advance s)) n (drawn-lt n (advance s) h (advance-lt s))) (draws-below n k (advance s) h)
+draws_below_lem : (n k s : ℕ) → 0 < n → each (λ p. ltb p n) (draws_below n k s).words ≡ true
+unfolding draws_below each
+draws_below_lem n zero s h = refl
+draws_below_lem n (suc k) s h = rw (lt-ltb (drawn n (advance s)) n (drawn_lt n (advance s) h (advance_lt s))) (draws_below_lem n k (advance s) h)
 
-draws-many : (n k s : ℕ) → length (drawsBelow n k s).words ≡ k
-unfolding drawsBelow
-draws-many n zero s = refl
-draws-many n (suc k) s = ap suc (draws-many n k (advance s))
+draws_many : (n k s : ℕ) → length (draws_below n k s).words ≡ k
+unfolding draws_below
+draws_many n zero s = refl
+draws_many n (suc k) s = ap suc (draws_many n k (advance s))
 
-pub pivots-many : (n s : ℕ) → length (pivotsDrawn n s).words ≡ min 8 n
-unfolding pivotsDrawn
-pivots-many n s = draws-many n (min 8 n) s
+pub pivots_many : (n s : ℕ) → length (pivots_drawn n s).words ≡ min 8 n
+unfolding pivots_drawn
+pivots_many n s = draws_many n (min 8 n) s
 
-pub pivots-pass : (n s : ℕ) → 0 < n → badPivots n (pivotsDrawn n s).words ≡ false
-unfolding badPivots pivotsDrawn
-pivots-pass n s h =
-    let l : length (drawsBelow n (min 8 n) s).words ≡ min 8 n = draws-many n (min 8 n) s in
+pub pivots_pass : (n s : ℕ) → 0 < n → bad_pivots n (pivots_drawn n s).words ≡ false
+unfolding bad_pivots pivots_drawn
+pivots_pass n s h =
+    let l : length (draws_below n (min 8 n) s).words ≡ min 8 n = draws_many n (min 8 n) s in
     rw (
-      ne_eqb (length (drawsBelow n (min 8 n) s).words) 0 (λ e. omega arith),
-      le-ltb 8 (length (drawsBelow n (min 8 n) s).words)
+      ne_eqb (length (draws_below n (min 8 n) s).words) 0 (λ e. omega arith),
+      le-ltb 8 (length (draws_below n (min 8 n) s).words)
           (omega arith),
-      draws-below n (min 8 n) s h,
+      draws_below_lem n (min 8 n) s h,
     ) refl

@@ -8,8 +8,8 @@ use Rattle.std.specs.Float.{nan, inf, fin, Format, binary32}
 use Rattle.std.specs.Float.Ieee.{prec, emax, low, up, down, lt, mul, size, nearest, round, units, odd, of_bits}
 use Rattle.std.specs.Float.Ieee.Exact.{HasValue, odd_sign}
 use Rattle.std.specs.Float.Ieee.Fits.{down_pos}
-use Rattle.definition.specs.Floats.{one, onePointTwo, four, largest, larger, smaller, times, above}
-use Rattle.definition.specs.Prune.{target_of, increment, nextAlpha}
+use Rattle.definition.specs.Floats.{one, one_point_two, four, largest, larger, smaller, times, above}
+use Rattle.definition.specs.Prune.{target_of, increment, next_alpha}
 use Rattle.laws.specs.Truth.{either, branch}
 
 pub record Modest (x : Float) : Type 0 where
@@ -19,9 +19,9 @@ pub record Modest (x : Float) : Type 0 where
   pub most : m * up e ≤ 4 * down e
 
 -- so it is below f32::MAX
-pub modest-below : (x : Float) → Modest x → lt x largest ≡ true
+pub modest_below : (x : Float) → Modest x → lt x largest ≡ true
 unfolding lt largest of_bits
-modest-below x p =
+modest_below x p =
     let d : 0 < down p.e = down_pos p.e in
     let h : p.m * up p.e ≤ 4 * down p.e = p.most in
     let k : p.m * up p.e < 5 * down p.e = omega arith in
@@ -42,9 +42,9 @@ of-value (inf s) a c v = absurd v
 of-value (fin true m e) a c v = absurd (true≢false v.0)
 of-value (fin false m e) a c v = finite m e
 
-of-units : (f : Format) (q k : ℕ) → Shape (units f false q k)
+of_units : (f : Format) (q k : ℕ) → Shape (units f false q k)
 unfolding units
-of-units f q k =
+of_units f q k =
     either (λ (x : Float). Shape x) (ltb (q * 2 ^ k) (2 ^ (low f + suc (emax f))))
     (of-value (odd (suc (prec f)) false q k (low f)) (q * 2 ^ k) (2 ^ low f) (odd_sign (suc (prec f)) false q k (low f))) infinite
 
@@ -54,7 +54,7 @@ of-round f a b =
     let n = a * 2 ^ low f in
     let k = size (n / b) - prec f in
     let u = b * 2 ^ k in
-    of-units f (nearest (n / u) (compare (n % u * 2) u)) k
+    of_units f (nearest (n / u) (compare (n % u * 2) u)) k
 
 of-product : (x y : Float) → Modest x → Modest y → Shape (times x y)
 unfolding times mul
@@ -82,17 +82,17 @@ under t x p (finite m e) h =
 
 -- ---- target and current
 
-pub one-modest : Modest one
+pub one_modest : Modest one
 unfolding one of_bits
-one-modest = record { m = 1; e = pos 0; is = refl; most = lit≤ tt }
+one_modest = record { m = 1; e = pos 0; is = refl; most = lit≤ tt }
 
-point-two-modest : Modest onePointTwo
-unfolding onePointTwo of_bits
-point-two-modest = record { m = 5033165; e = negsuc 21; is = refl; most = lit≤ tt }
+point_two_modest : Modest one_point_two
+unfolding one_point_two of_bits
+point_two_modest = record { m = 5033165; e = negsuc 21; is = refl; most = lit≤ tt }
 
-four-modest : Modest four
+four_modest : Modest four
 unfolding four of_bits
-four-modest = record { m = 1; e = pos 2; is = refl; most = lit≤ tt }
+four_modest = record { m = 1; e = pos 2; is = refl; most = lit≤ tt }
 
 -- a value above one is finite or infinite, and of sign +
 above-one : (x : Float) → lt one x ≡ true → Shape x
@@ -103,17 +103,17 @@ above-one (inf false) h = infinite
 above-one (fin true m e) h = absurd (false≢true h)
 above-one (fin false m e) h = finite m e
 
-pub target-modest : (alpha : Float) → above alpha four ≡ false → Modest (target_of alpha)
+pub target_modest : (alpha : Float) → above alpha four ≡ false → Modest (target_of alpha)
 unfolding target_of larger above
-target-modest alpha h = branch Modest (lt one alpha) (λ e. under four alpha four-modest (above-one alpha e) h) (λ e. one-modest)
+target_modest alpha h = branch Modest (lt one alpha) (λ e. under four alpha four_modest (above-one alpha e) h) (λ e. one_modest)
 
-pub next-modest : (target current : Float) → Modest target → Modest current → Modest (nextAlpha target current)
-unfolding nextAlpha increment smaller
-next-modest target current p q =
-    branch Modest (lt target y) (λ e. p) (λ e. under target y p (of-product current inc q (either Modest (lt onePointTwo target) point-two-modest p)) e)
+pub next_modest : (target current : Float) → Modest target → Modest current → Modest (next_alpha target current)
+unfolding next_alpha increment smaller
+next_modest target current p q =
+    branch Modest (lt target y) (λ e. p) (λ e. under target y p (of-product current inc q (either Modest (lt one_point_two target) point_two_modest p)) e)
   where
     inc : Float
-    inc = cond (lt onePointTwo target) onePointTwo target
+    inc = cond (lt one_point_two target) one_point_two target
 
     y : Float
     y = times current inc

@@ -6,43 +6,43 @@ use Rattle.std.proofs.Math.Path.{ap}
 use mathlib.Core.List.Memᴰ.{of_map}
 use mathlib.Core.List.{List, [], ◌∷◌, ◌++◌, Memᴰ as Mem}
 use Rattle.std.proofs.lemmas.List.{length-map}
-use Rattle.definition.specs.Lists.{isIn, sort}
+use Rattle.definition.specs.Lists.{is_in, sort}
 use Rattle.definition.specs.Beam.{Item, item, best}
 use Rattle.definition.specs.Greedy.{State, greedy}
-use Rattle.definition.specs.Search.{listedFirst, ranked}
-use Rattle.definition.specs.Recall.{nearest, inBoth}
+use Rattle.definition.specs.Search.{listed_first, ranked}
+use Rattle.definition.specs.Recall.{nearest, in_both}
 use Rattle.laws.specs.Truth.{decide}
-use Rattle.laws.specs.Members.{Same, take-mem, keep-mem, keep_all, keep-length, isIn-mem, mem-isIn}
-use Rattle.laws.specs.Sums.{bit, kept-snoc}
-use Rattle.laws.specs.Apart.{Apart, nodup-apart, apart-keep, apart-within, apart-full}
-use Rattle.laws.specs.Sorting.{sort-mem, sort-same, ordered-apart}
-use Rattle.laws.specs.Items.{ids_of, ids-elim, ids-within, listed-order, worse-order}
+use Rattle.laws.specs.Members.{Same, take_mem, keep_mem, keep_all, keep_length, is_in-mem, mem-is_in}
+use Rattle.laws.specs.Sums.{bit, kept_snoc}
+use Rattle.laws.specs.Apart.{Apart, nodup_apart, apart_keep, apart_within, apart_full}
+use Rattle.laws.specs.Sorting.{sort_mem, sort_same, ordered_apart}
+use Rattle.laws.specs.Items.{ids_of, ids_elim, ids_within, listed_order, worse_order}
 use Rattle.theory.specs.search.Tells.{Reachable, SearchTells}
 use Rattle.theory.specs.search.Ground.{Ground}
-use Rattle.theory.specs.search.Ends.{greedy-done, greedy-keeps}
-use Rattle.theory.specs.search.Stopped.{stopped-tells}
-use Rattle.theory.specs.search.Ranked.{work-own}
-use Rattle.theory.specs.recall.Nearest.{every, every-own, in-every, every-apart, nearest-count}
+use Rattle.theory.specs.search.Ends.{greedy_done, greedy_keeps}
+use Rattle.theory.specs.search.Stopped.{stopped_tells}
+use Rattle.theory.specs.search.Ranked.{work_own}
+use Rattle.theory.specs.recall.Nearest.{every, every_own, in_every, every_apart, nearest_count}
 
 -- ---- two lists
 
-pub both_most : (xs ys : List ℕ) → inBoth xs ys ≤ length xs
-unfolding inBoth
-both_most xs ys = keep-length (λ x. isIn x ys) xs
+pub both_most : (xs ys : List ℕ) → in_both xs ys ≤ length xs
+unfolding in_both
+both_most xs ys = keep_length (λ x. is_in x ys) xs
 
-pub both-within : (xs ys : List ℕ) → Apart xs → inBoth xs ys ≤ length ys
-unfolding inBoth
-both-within xs ys a =
-    apart-within ys (apart-keep (λ x. isIn x ys) a) (λ z m. isIn-mem z ys (keep-mem (λ x. isIn x ys) xs m).1)
+pub both_within : (xs ys : List ℕ) → Apart xs → in_both xs ys ≤ length ys
+unfolding in_both
+both_within xs ys a =
+    apart_within ys (apart_keep (λ x. is_in x ys) a) (λ z m. is_in-mem z ys (keep_mem (λ x. is_in x ys) xs m).1)
 
-pub both-same : (xs : List ℕ) → inBoth xs xs ≡ length xs
-unfolding inBoth
-both-same xs = ap length (keep_all (λ x. isIn x xs) xs (λ z m. mem-isIn z xs m))
+pub both_same : (xs : List ℕ) → in_both xs xs ≡ length xs
+unfolding in_both
+both_same xs = ap length (keep_all (λ x. is_in x xs) xs (λ z m. mem-is_in z xs m))
 
 -- one more of the first
-pub both-snoc : (xs ys : List ℕ) (x : ℕ) → inBoth (xs ++ (x ∷ [])) ys ≡ inBoth xs ys + bit (isIn x ys)
-unfolding inBoth
-both-snoc xs ys x = kept-snoc (λ z. isIn z ys) xs x
+pub both_snoc : (xs ys : List ℕ) (x : ℕ) → in_both (xs ++ (x ∷ [])) ys ≡ in_both xs ys + bit (is_in x ys)
+unfolding in_both
+both_snoc xs ys x = kept_snoc (λ z. is_in z ys) xs x
 
 -- ---- a search and the nearest
 
@@ -54,56 +54,56 @@ module _ (g : Ground) (k : ℕ) where
 
   -- the first k of its work
   abbrev answered : ℕ → List Item
-  answered j = take j (sort listedFirst end.work)
+  answered j = take j (sort listed_first end.work)
 
   tells : (j : ℕ) → SearchTells rows d start (min j beam) (ids_of (answered j)) (best (answered j)).dist
-  tells j = stopped-tells g end (greedy-done g) j
+  tells j = stopped_tells g end (greedy_done g) j
 
-  pub brought-answered : inBoth (ids_of (answered k)) (ids_of (nearest d n k)) ≤ min k beam
-  brought-answered = omega (arith, both_most (ids_of (answered k)) (ids_of (nearest d n k)), (tells k).most)
+  pub brought_answered : in_both (ids_of (answered k)) (ids_of (nearest d n k)) ≤ min k beam
+  brought_answered = omega (arith, both_most (ids_of (answered k)) (ids_of (nearest d n k)), (tells k).most)
 
-  pub brought-nearest : inBoth (ids_of (answered k)) (ids_of (nearest d n k)) ≤ min k n
-  brought-nearest =
+  pub brought_nearest : in_both (ids_of (answered k)) (ids_of (nearest d n k)) ≤ min k n
+  brought_nearest =
       omega (
         arith,
-        both-within (ids_of (answered k)) (ids_of (nearest d n k)) (nodup-apart (tells k).once),
+        both_within (ids_of (answered k)) (ids_of (nearest d n k)) (nodup_apart (tells k).once),
         length-map (nearest d n k) (λ (c : Item). c.id),
-        nearest-count d n k,
+        nearest_count d n k,
       )
 
   module _ (room : n ≤ beam) (all : (i : ℕ) → i < n → Reachable rows start i) where
-    work-ids : (i : ℕ) → i < n → Mem i (ids_of end.work)
-    work-ids i h =
-        ids-within (answered beam) end.work inside i
+    work_ids : (i : ℕ) → i < n → Mem i (ids_of end.work)
+    work_ids i h =
+        ids_within (answered beam) end.work inside i
         (decide (ltb (length (ids_of (answered beam))) beam)
-        (λ t. (tells beam).all-if-fewer (omega (arith, ltb-true (length (ids_of (answered beam))) beam t)) i (all i h))
-        (λ f. apart-full n (nodup-apart (tells beam).once) (ids-elim (λ z. z < n) (answered beam) (λ c m. (work-own g c (inside c m)).1))
+        (λ t. (tells beam).all_if_fewer (omega (arith, ltb-true (length (ids_of (answered beam))) beam t)) i (all i h))
+        (λ f. apart_full n (nodup_apart (tells beam).once) (ids_elim (λ z. z < n) (answered beam) (λ c m. (work_own g c (inside c m)).1))
         (omega (arith, ltb-false (length (ids_of (answered beam))) beam f)) i h))
       where
         inside : (c : Item) → Mem c (answered beam) → Mem c end.work
-        inside c m = sort-mem listedFirst end.work (take-mem beam (sort listedFirst end.work) m)
+        inside c m = sort_mem listed_first end.work (take_mem beam (sort listed_first end.work) m)
 
     -- two items of one id, each with its own distance
     own_same : (x y : Item) → x.dist ≡ d x.id → y.dist ≡ d y.id → x.id ≡ y.id → x ≡ y
     own_same x y p q e = λ i. record { dist = (p ∙ ap d e ∙ sym q) i; id = e i }
 
-    work-every : Same end.work (every d n)
-    work-every =
+    work_every : Same end.work (every d n)
+    work_every =
         record {
-          to = λ x m. let o = work-own g x m in
-              subst (λ (y : Item). Mem y (every d n)) (own_same (item (d x.id) x.id) x refl o.0 refl) (in-every d n x.id o.1);
+          to = λ x m. let o = work_own g x m in
+              subst (λ (y : Item). Mem y (every d n)) (own_same (item (d x.id) x.id) x refl o.0 refl) (in_every d n x.id o.1);
           from = λ x m.
-              let o = every-own d n x m in
-              let t = of_map (λ (c : Item). c.id) end.work (work-ids x.id o.1) in
-              subst (λ (y : Item). Mem y end.work) (own_same t.0 x (work-own g t.0 t.1).0 o.0 t.2) t.1;
+              let o = every_own d n x m in
+              let t = of_map (λ (c : Item). c.id) end.work (work_ids x.id o.1) in
+              subst (λ (y : Item). Mem y end.work) (own_same t.0 x (work_own g t.0 t.1).0 o.0 t.2) t.1;
         }
 
-    pub all-answered : answered k ≡ nearest d n k
+    pub all_answered : answered k ≡ nearest d n k
     unfolding nearest ranked
-    all-answered =
-        ap (take k) (sort-same listed-order (ordered-apart worse-order (greedy-keeps g).holding.sorted) (every-apart d n) work-every)
+    all_answered =
+        ap (take k) (sort_same listed_order (ordered_apart worse_order (greedy_keeps g).holding.sorted) (every_apart d n) work_every)
 
-    pub all-brought : inBoth (ids_of (answered k)) (ids_of (nearest d n k)) ≡ min k n
-    all-brought =
-        ap (λ (l : List Item). inBoth (ids_of l) (ids_of (nearest d n k))) all-answered
-        ∙ both-same (ids_of (nearest d n k)) ∙ length-map (nearest d n k) (λ (c : Item). c.id) ∙ nearest-count d n k
+    pub all_brought : in_both (ids_of (answered k)) (ids_of (nearest d n k)) ≡ min k n
+    all_brought =
+        ap (λ (l : List Item). in_both (ids_of l) (ids_of (nearest d n k))) all_answered
+        ∙ both_same (ids_of (nearest d n k)) ∙ length-map (nearest d n k) (λ (c : Item). c.id) ∙ nearest_count d n k

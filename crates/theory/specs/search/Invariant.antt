@@ -9,10 +9,10 @@ use mathlib.Core.List.Memᴰ.{append_right as in-back}
 use mathlib.Core.List.Memᴰ.{cases_cons as cases}
 use Rattle.definition.specs.Tables.{pad}
 use Rattle.definition.specs.Beam.{Item, worse, insert}
-use Rattle.laws.specs.Members.{snoc-elim}
+use Rattle.laws.specs.Members.{snoc_elim}
 use Rattle.laws.specs.Apart.{Apart, apart_snoc}
-use Rattle.laws.specs.Sorting.{Ordered, ordered-tail, place-elim, mem-place, place-ordered}
-use Rattle.laws.specs.Items.{ids_of, id-in, ids-elim, ids-snoc, worse-order}
+use Rattle.laws.specs.Sorting.{Ordered, ordered_tail, place_elim, mem_place, place_ordered}
+use Rattle.laws.specs.Items.{ids_of, id_in, ids_elim, ids_snoc, worse_order}
 use Rattle.laws.specs.Inserts.{length-insert}
 use Rattle.theory.specs.search.Tells.{Reachable, along}
 use Rattle.theory.specs.search.Ground.{Ground}
@@ -28,8 +28,8 @@ module _ (g : Ground) where
     pub below : (c : Item) → Mem c visited → c.id < n
     pub reachable : (c : Item) → Mem c visited → Reachable rows start c.id
     pub begun : Mem start (ids_of visited)
-    pub expanded-once : Apart expanded
-    pub expanded-seen : (e : ℕ) → Mem e expanded → Mem e (ids_of visited)
+    pub expanded_once : Apart expanded
+    pub expanded_seen : (e : ℕ) → Mem e expanded → Mem e (ids_of visited)
 
 -- the frontier: in order, visited, not yet expanded
 pub record Waiting (visited : List Item) (expanded : List ℕ) (frontier : List Item) : Type 0 where
@@ -40,7 +40,7 @@ pub record Waiting (visited : List Item) (expanded : List ℕ) (frontier : List 
 -- work is full, and nobody in it is farther than c
 pub record Shut (beam : ℕ) (work : List Item) (c : Item) : Type 0 where
   pub full : beam ≤ length work
-  pub no-farther : (v : Item) → Mem v work → v.dist ≤ c.dist
+  pub no_farther : (v : Item) → Mem v work → v.dist ≤ c.dist
 
 -- work: in order, visited, at most beam; each of it expanded or in the frontier; to all others that were visited it is shut
 pub record Holding (beam : ℕ) (visited : List Item) (expanded : List ℕ) (frontier work : List Item) : Type 0 where
@@ -52,61 +52,61 @@ pub record Holding (beam : ℕ) (visited : List Item) (expanded : List ℕ) (fro
 
 -- ---- a newly visited entry
 
-insert-elim : (P : Item → Type 0) (c : Item) (xs : List Item) → ((x : Item) → Mem x xs → P x) → P c → (x : Item) → Mem x (insert c xs) → P x
+insert_elim : (P : Item → Type 0) (c : Item) (xs : List Item) → ((x : Item) → Mem x xs → P x) → P c → (x : Item) → Mem x (insert c xs) → P x
 unfolding insert
-insert-elim P c xs f p = place-elim worse P c xs p f
+insert_elim P c xs f p = place_elim worse P c xs p f
 
-insert-new : (c : Item) (xs : List Item) → Mem c (insert c xs)
+insert_new : (c : Item) (xs : List Item) → Mem c (insert c xs)
 unfolding insert
-insert-new c xs = mem-place worse c xs (inl refl)
+insert_new c xs = mem_place worse c xs (inl refl)
 
-insert-old : (c x : Item) (xs : List Item) → Mem x xs → Mem x (insert c xs)
+insert_old : (c x : Item) (xs : List Item) → Mem x xs → Mem x (insert c xs)
 unfolding insert
-insert-old c x xs m = mem-place worse c xs (inr m)
+insert_old c x xs m = mem_place worse c xs (inr m)
 
 -- a full work whose worst has left for c: shut to x, if neither c nor one of the others is farther
 pub shut-insert : {beam : ℕ} (c x : Item) (vs : List Item) → beam ≤ suc (length vs) → c.dist ≤ x.dist → ((u : Item) → Mem u vs → u.dist ≤ x.dist)
     → Shut beam (insert c vs) x
 shut-insert c x vs size near others =
-    record { full = omega (arith, length-insert c vs); no-farther = insert-elim (λ u. u.dist ≤ x.dist) c vs others near }
+    record { full = omega (arith, length-insert c vs); no_farther = insert_elim (λ u. u.dist ≤ x.dist) c vs others near }
 
 module _ (visited : List Item) (expanded : List ℕ) (c : Item) (new : ¬ Mem c.id (ids_of visited)) where
-  insert-ordered : (xs : List Item) → ((x : Item) → Mem x xs → Mem x visited) → Ordered worse xs → Ordered worse (insert c xs)
+  insert_ordered : (xs : List Item) → ((x : Item) → Mem x xs → Mem x visited) → Ordered worse xs → Ordered worse (insert c xs)
   unfolding insert
-  insert-ordered xs f o = place-ordered worse-order c (λ m. new (id-in (f c m))) o
+  insert_ordered xs f o = place_ordered worse_order c (λ m. new (id_in (f c m))) o
 
   -- c was visited along the row of an expanded one
   pub seen_more : (g : Ground) (e : ℕ) → c.dist ≡ g.d c.id → c.id < g.n → Mem e expanded → Mem c.id (g.rows e) → c.id ≢ pad
       → Seen g visited expanded → Seen g (visited ++ (c ∷ [])) expanded
-  seen_more g e own below is-expanded on_Row no-pad s =
+  seen_more g e own below is-expanded on_Row no_pad s =
       record {
-        own = snoc-elim (λ x. x.dist ≡ g.d x.id) visited c s.own own;
-        once = subst Apart (sym (ids-snoc visited c)) (apart_snoc c.id s.once new);
-        below = snoc-elim (λ x. x.id < g.n) visited c s.below below;
-        reachable = snoc-elim (λ x. Reachable g.rows g.start x.id) visited c s.reachable
-            (along (ids-elim (Reachable g.rows g.start) visited s.reachable e (s.expanded-seen e is-expanded)) on_Row no-pad);
+        own = snoc_elim (λ x. x.dist ≡ g.d x.id) visited c s.own own;
+        once = subst Apart (sym (ids_snoc visited c)) (apart_snoc c.id s.once new);
+        below = snoc_elim (λ x. x.id < g.n) visited c s.below below;
+        reachable = snoc_elim (λ x. Reachable g.rows g.start x.id) visited c s.reachable
+            (along (ids_elim (Reachable g.rows g.start) visited s.reachable e (s.expanded_seen e is-expanded)) on_Row no_pad);
         begun = keep g.start s.begun;
-        expanded-once = s.expanded-once;
-        expanded-seen = λ i m. keep i (s.expanded-seen i m);
+        expanded_once = s.expanded_once;
+        expanded_seen = λ i m. keep i (s.expanded_seen i m);
       }
     where
       keep : (i : ℕ) → Mem i (ids_of visited) → Mem i (ids_of (visited ++ (c ∷ [])))
-      keep i m = subst (λ (l : List ℕ). Mem i l) (sym (ids-snoc visited c)) (in_front (c.id ∷ []) m)
+      keep i m = subst (λ (l : List ℕ). Mem i l) (sym (ids_snoc visited c)) (in_front (c.id ∷ []) m)
 
-  pub waiting-same : {frontier : List Item} → Waiting visited expanded frontier → Waiting (visited ++ (c ∷ [])) expanded frontier
-  waiting-same w = record { sorted = w.sorted; seen = λ x m. in_front (c ∷ []) (w.seen x m); fresh = w.fresh }
+  pub waiting_same : {frontier : List Item} → Waiting visited expanded frontier → Waiting (visited ++ (c ∷ [])) expanded frontier
+  waiting_same w = record { sorted = w.sorted; seen = λ x m. in_front (c ∷ []) (w.seen x m); fresh = w.fresh }
 
   -- c goes into a list of visited items
-  insert-seen : (xs : List Item) → ((x : Item) → Mem x xs → Mem x visited) → (x : Item) → Mem x (insert c xs) → Mem x (visited ++ (c ∷ []))
-  insert-seen xs f = insert-elim (λ x. Mem x (visited ++ (c ∷ []))) c xs (λ x m. in_front (c ∷ []) (f x m)) (in-back visited (here refl))
+  insert_seen : (xs : List Item) → ((x : Item) → Mem x xs → Mem x visited) → (x : Item) → Mem x (insert c xs) → Mem x (visited ++ (c ∷ []))
+  insert_seen xs f = insert_elim (λ x. Mem x (visited ++ (c ∷ []))) c xs (λ x m. in_front (c ∷ []) (f x m)) (in-back visited (here refl))
 
-  pub waiting-more : {frontier : List Item} → ((i : ℕ) → Mem i expanded → Mem i (ids_of visited)) → Waiting visited expanded frontier
+  pub waiting_more : {frontier : List Item} → ((i : ℕ) → Mem i expanded → Mem i (ids_of visited)) → Waiting visited expanded frontier
       → Waiting (visited ++ (c ∷ [])) expanded (insert c frontier)
-  waiting-more {frontier} known w =
+  waiting_more {frontier} known w =
       record {
-        sorted = insert-ordered frontier w.seen w.sorted;
-        seen = insert-seen frontier w.seen;
-        fresh = insert-elim (λ x. ¬ Mem x.id expanded) c frontier w.fresh (λ m. new (known c.id m));
+        sorted = insert_ordered frontier w.seen w.sorted;
+        seen = insert_seen frontier w.seen;
+        fresh = insert_elim (λ x. ¬ Mem x.id expanded) c frontier w.fresh (λ m. new (known c.id m));
       }
 
   module _ (beam : ℕ) {frontier work : List Item} (h : Holding beam visited expanded frontier work) where
@@ -115,43 +115,43 @@ module _ (visited : List Item) (expanded : List ℕ) (c : Item) (new : ¬ Mem c.
       where
         go : Mem x.id expanded ⊎ Mem x frontier → Mem x.id expanded ⊎ Mem x (insert c frontier)
         go (inl k) = inl k
-        go (inr k) = inr (insert-old c x frontier k)
+        go (inr k) = inr (insert_old c x frontier k)
 
-    pub holding-room : length work < beam → Holding beam (visited ++ (c ∷ [])) expanded (insert c frontier) (insert c work)
-    holding-room room =
+    pub holding_room : length work < beam → Holding beam (visited ++ (c ∷ [])) expanded (insert c frontier) (insert c work)
+    holding_room room =
         record {
-          sorted = insert-ordered work h.seen h.sorted;
-          seen = insert-seen work h.seen;
+          sorted = insert_ordered work h.seen h.sorted;
+          seen = insert_seen work h.seen;
           most = omega (arith, length-insert c work);
-          waits = insert-elim (λ x. Mem x.id expanded ⊎ Mem x (insert c frontier)) c work still (inr (insert-new c frontier));
-          out = snoc-elim (λ x. Mem x (insert c work) ⊎ Shut beam (insert c work) x) visited c (λ x m. inside x (h.out x m)) (inl (insert-new c work));
+          waits = insert_elim (λ x. Mem x.id expanded ⊎ Mem x (insert c frontier)) c work still (inr (insert_new c frontier));
+          out = snoc_elim (λ x. Mem x (insert c work) ⊎ Shut beam (insert c work) x) visited c (λ x m. inside x (h.out x m)) (inl (insert_new c work));
         }
       where
         inside : (x : Item) → Mem x work ⊎ Shut beam work x → Mem x (insert c work) ⊎ Shut beam (insert c work) x
-        inside x (inl m) = inl (insert-old c x work m)
+        inside x (inl m) = inl (insert_old c x work m)
         inside x (inr s) = absurd (omega (arith, s.full))
 
-    pub holding-out : beam ≤ length work → ((u : Item) → Mem u work → u.dist ≤ c.dist) → Holding beam (visited ++ (c ∷ [])) expanded frontier work
-    holding-out full far =
+    pub holding_out : beam ≤ length work → ((u : Item) → Mem u work → u.dist ≤ c.dist) → Holding beam (visited ++ (c ∷ [])) expanded frontier work
+    holding_out full far =
         record {
           sorted = h.sorted;
           seen = λ x m. in_front (c ∷ []) (h.seen x m);
           most = h.most;
           waits = h.waits;
-          out = snoc-elim (λ x. Mem x work ⊎ Shut beam work x) visited c h.out (inr (record { full = full; no-farther = far }));
+          out = snoc_elim (λ x. Mem x work ⊎ Shut beam work x) visited c h.out (inr (record { full = full; no_farther = far }));
         }
 
   -- the worst, v, leaves for c
-  pub holding-full : (beam : ℕ) {frontier : List Item} (v : Item) (vs : List Item) → Holding beam visited expanded frontier (v ∷ vs) → suc (length vs) ≡ beam
+  pub holding_full : (beam : ℕ) {frontier : List Item} (v : Item) (vs : List Item) → Holding beam visited expanded frontier (v ∷ vs) → suc (length vs) ≡ beam
       → c.dist < v.dist
       → Holding beam (visited ++ (c ∷ [])) expanded (insert c frontier) (insert c vs)
-  holding-full beam {frontier} v vs h size near =
+  holding_full beam {frontier} v vs h size near =
       record {
-        sorted = insert-ordered vs (λ x m. h.seen x (there m)) (ordered-tail h.sorted);
-        seen = insert-seen vs (λ x m. h.seen x (there m));
+        sorted = insert_ordered vs (λ x m. h.seen x (there m)) (ordered_tail h.sorted);
+        seen = insert_seen vs (λ x m. h.seen x (there m));
         most = omega (arith, length-insert c vs);
-        waits = insert-elim (λ x. Mem x.id expanded ⊎ Mem x (insert c frontier)) c vs (λ x m. still beam h x (there m)) (inr (insert-new c frontier));
-        out = snoc-elim (λ x. Mem x (insert c vs) ⊎ Shut beam (insert c vs) x) visited c (λ x m. go x (h.out x m)) (inl (insert-new c vs));
+        waits = insert_elim (λ x. Mem x.id expanded ⊎ Mem x (insert c frontier)) c vs (λ x m. still beam h x (there m)) (inr (insert_new c frontier));
+        out = snoc_elim (λ x. Mem x (insert c vs) ⊎ Shut beam (insert c vs) x) visited c (λ x m. go x (h.out x m)) (inl (insert_new c vs));
       }
     where
       shut : (x : Item) → v.dist ≤ x.dist → Shut beam (insert c vs) x
@@ -162,5 +162,5 @@ module _ (visited : List Item) (expanded : List ℕ) (c : Item) (new : ¬ Mem c.
         where
           at : (x ≡ v) ⊎ Mem x vs → Mem x (insert c vs) ⊎ Shut beam (insert c vs) x
           at (inl e) = inr (shut x (omega (arith, ap (λ (u : Item). u.dist) e)))
-          at (inr k) = inl (insert-old c x vs k)
-      go x (inr s) = inr (shut x (s.no-farther v (here refl)))
+          at (inr k) = inl (insert_old c x vs k)
+      go x (inr s) = inr (shut x (s.no_farther v (here refl)))

@@ -13,7 +13,7 @@ pub data Reachable (rows : ℕ → List ℕ) (start : ℕ) : ℕ → Type 0 wher
 -- e stands on the way: the start, the end, or one between
 unfoldable pub OnWay : {rows : ℕ → List ℕ} {start y : ℕ} → Reachable rows start y → ℕ → Type 0
 OnWay {start = start} from_start e = e ≡ start
-OnWay (along {j = j} way on_Row no-pad) e = (e ≡ j) ⊎ OnWay way e
+OnWay (along {j = j} way on_Row no_pad) e = (e ≡ j) ⊎ OnWay way e
 
 -- at most `asked` answers, each once, each reachable; fewer are all that is reachable; and along the row of an answer nearer than the last,
 -- each entry is an answer or no nearer than the last
@@ -21,8 +21,8 @@ pub record SearchTells (rows : ℕ → List ℕ) (d : ℕ → ℕ) (start asked 
   pub most : length answers ≤ asked
   pub once : Nodup answers
   pub reachable : (x : ℕ) → Mem x answers → Reachable rows start x
-  pub all-if-fewer : length answers < asked → (x : ℕ) → Reachable rows start x → Mem x answers
-  pub none-nearer : (x y : ℕ) → Mem x answers → d x < last → Mem y (rows x) → y ≢ pad → Mem y answers ⊎ (last ≤ d y)
+  pub all_if_fewer : length answers < asked → (x : ℕ) → Reachable rows start x → Mem x answers
+  pub none_nearer : (x y : ℕ) → Mem x answers → d x < last → Mem y (rows x) → y ≢ pad → Mem y answers ⊎ (last ≤ d y)
 
 -- an entry is missing only if every way to it from the start passes an entry, the start and itself included, that is no nearer than the last answer
 abbrev pub Excludes : (ℕ → List ℕ) → (ℕ → ℕ) → ℕ → List ℕ → ℕ → Type 0

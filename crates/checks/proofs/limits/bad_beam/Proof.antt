@@ -1,12 +1,12 @@
 -- `bad_beam` meets its contract.
 use Rattle.std.proofs.Common.{◌-◌, refl}
-use Rattle.definition.specs.Refusals.{badBeam}
+use Rattle.definition.specs.Refusals.{bad_beam}
 use Rattle.checks.proofs.limits.bad_beam.Statement.{statement}
 use Rattle.checks.proofs.limits.bad_beam.Tie as tie
 
 returns : tie.Need-returns
-unfolding badBeam
+unfolding bad_beam
 returns c = refl
 
-pub bad-beam-spec : {M : Type 1} → statement M
-bad-beam-spec = tie.close (tie.spec returns)
+pub bad_beam_spec : {M : Type 1} → statement M
+bad_beam_spec = tie.close (tie.spec returns)

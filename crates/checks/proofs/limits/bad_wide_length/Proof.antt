@@ -1,7 +1,7 @@
 -- `bad_wide_length` meets its contract.
 use Rattle.std.proofs.Common.{ℕ, ap, ◌∙◌, arith, rules}
 use Rattle.laws.specs.Tables.{slack-few}
-use Rattle.checks.specs.Lengths.{wrongLength}
+use Rattle.checks.specs.Lengths.{wrong_length}
 use Rattle.checks.proofs.limits.bad_wide_length.Statement.{statement}
 use Rattle.checks.proofs.limits.bad_wide_length.Tie as tie
 
@@ -14,7 +14,7 @@ bad-length-requires c κs = let s = c.before in (s.requires.0, omega (arith, sla
 returns : tie.Need-returns
 returns c =
     let s = c.before.before in
-    c.bad-length.ensures ∙ ap (λ (w : ℕ). wrongLength s.args.n w s.args.length) c.before.slack.ensures
+    c.bad-length.ensures ∙ ap (λ (w : ℕ). wrong_length s.args.n w s.args.length) c.before.slack.ensures
 
-pub bad-wide-length-spec : {M : Type 1} → statement M
-bad-wide-length-spec = tie.close (tie.spec slack-requires bad-length-requires returns)
+pub bad_wide_length_spec : {M : Type 1} → statement M
+bad_wide_length_spec = tie.close (tie.spec slack-requires bad-length-requires returns)

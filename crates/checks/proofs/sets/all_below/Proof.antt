@@ -1,6 +1,6 @@
 -- `all_below` meets its contract.
 use Rattle.std.proofs.Common.{ℕ, ◌-◌, Bool, ltb, length, sym, subst, ⊎_elim, arith, rules, le-ltb, lt-ltb}
-use Rattle.laws.specs.Looked.{Looked, look-start, look-bad, look-good, look_none}
+use Rattle.laws.specs.Looked.{Looked, look-start, look_bad, look_good, look_none}
 use Rattle.checks.specs.Below.{all_below}
 use Rattle.checks.proofs.sets.all_below.Statement.{statement}
 use Rattle.checks.proofs.sets.all_below.Tie as tie
@@ -35,16 +35,16 @@ loop-again c =
     let s = c.before.before in let t = s.before in let v = t.before in
     let p : ℕ → Bool = λ u. ltb u v.args.n in let l = v.args.ids.now in let o = t.loop in let h = s.loop-test.true in
     ⊎_elim
-    (λ w. subst (Looked _ _ _) (sym w.1) (look-bad p l o.i o.found o.invariant h (le-ltb _ _ w.0.taken)))
-    (λ w. subst (Looked _ _ _) (sym w.1) (look-good p l o.i o.found o.invariant h (lt-ltb _ _ w.0.left)))
+    (λ w. subst (Looked _ _ _) (sym w.1) (look_bad p l o.i o.found o.invariant h (le-ltb _ _ w.0.taken)))
+    (λ w. subst (Looked _ _ _) (sym w.1) (look_good p l o.i o.found o.invariant h (lt-ltb _ _ w.0.left)))
     c.if1.branch
 
 returns : tie.Need-returns invariant-loop decreases-loop
 unfolding all_below
 returns c = look_none _ _ _ _ c.before.loop.invariant c.loop-test.false
 
-pub all-below-spec : {M : Type 1} → statement M
-all-below-spec =
+pub all_below_spec : {M : Type 1} → statement M
+all_below_spec =
     tie.close
     (tie.spec
     invariant-loop

@@ -1,14 +1,14 @@
 -- `bad_group` meets its contract.
 use Rattle.std.proofs.Common.{◌≡◌, ◌+◌, ◌-◌, ◌≤◌, length, drop, sym, refl, ap, ◌∙◌, arith, rules}
-use Rattle.definition.specs.Refusals.{goodGroup}
-use Rattle.checks.specs.Groups.{seed-far, seed-start, seed-again, seed-good, seeds-end}
-use Rattle.definition.specs.Lists.{isIn}
-use Rattle.checks.specs.Lent.{rest-is}
+use Rattle.definition.specs.Refusals.{good_group}
+use Rattle.checks.specs.Groups.{seed_far, seed_start, seed_again, seed_good, seeds_end}
+use Rattle.definition.specs.Lists.{is_in}
+use Rattle.checks.specs.Lent.{rest_is}
 use Rattle.checks.proofs.sets.bad_group.Statement.{statement}
 use Rattle.checks.proofs.sets.bad_group.Tie as tie
 
 abbrev invariant-loop : tie.invariant-loop
-invariant-loop n start group i₀ i = (i ≤ length group) × (goodGroup n start (drop i group) ≡ goodGroup n start group)
+invariant-loop n start group i₀ i = (i ≤ length group) × (good_group n start (drop i group) ≡ good_group n start group)
 
 abbrev decreases-loop : tie.decreases-loop
 decreases-loop n start group i₀ i = length group - i
@@ -28,12 +28,12 @@ cast-if1 c = record { fits = omega (arith, (c.shared-slice-known2.given c.before
 returns : tie.Need-returns invariant-loop decreases-loop
 returns c =
     let s = c.before.before.before in let t = s.before.before in let a = t.args in
-    seed-far a.n a.start a.group.now s.loop.i s.loop.invariant.1 c.before.before.loop-test.true c.if1.true
+    seed_far a.n a.start a.group.now s.loop.i s.loop.invariant.1 c.before.before.loop-test.true c.if1.true
 
 returns-2 : tie.Need-returns-2 invariant-loop decreases-loop
 returns-2 c =
     let s = c.before.before.before.before in let t = s.before.before in let a = t.args in
-    seed-start a.n a.start a.group.now s.loop.i s.loop.invariant.1
+    seed_start a.n a.start a.group.now s.loop.i s.loop.invariant.1
     c.before.before.before.loop-test.true c.before.if1.false c.if2.true
 
 add-next : tie.Need-overflow-add-next invariant-loop decreases-loop
@@ -57,9 +57,9 @@ is-among-requires c κs = search rules
 returns-3 : tie.Need-returns-3 invariant-loop decreases-loop
 returns-3 c =
     let s = c.before.before.before.before.before.before.before in let t = s.before.before in let a = t.args in
-    seed-again a.n a.start a.group.now s.loop.i s.loop.invariant.1
+    seed_again a.n a.start a.group.now s.loop.i s.loop.invariant.1
     c.before.before.before.before.before.before.loop-test.true c.before.before.before.before.if1.false c.before.before.before.if2.false
-    (ap (isIn _) (sym (rest-is (s.loop.i + 1) a.group.now (omega arith))) ∙ sym c.before.is_among.ensures ∙ c.if3.true)
+    (ap (is_in _) (sym (rest_is (s.loop.i + 1) a.group.now (omega arith))) ∙ sym c.before.is_among.ensures ∙ c.if3.true)
 
 loop-less : tie.Need-loop-smaller invariant-loop decreases-loop
 loop-less c = omega arith
@@ -68,17 +68,17 @@ loop-again : tie.Need-loop-preserved invariant-loop decreases-loop
 loop-again c =
     let s = c.before.before.before.before.before.before.before in let t = s.before.before in let a = t.args in (
       omega arith,
-      seed-good a.n a.start a.group.now s.loop.i s.loop.invariant.1
+      seed_good a.n a.start a.group.now s.loop.i s.loop.invariant.1
           c.before.before.before.before.before.before.loop-test.true
           c.before.before.before.before.if1.false c.before.before.before.if2.false
-          (ap (isIn _) (sym (rest-is (s.loop.i + 1) a.group.now (omega arith))) ∙ sym c.before.is_among.ensures ∙ c.if3.false),
+          (ap (is_in _) (sym (rest_is (s.loop.i + 1) a.group.now (omega arith))) ∙ sym c.before.is_among.ensures ∙ c.if3.false),
     )
 
 returns-4 : tie.Need-returns-4 invariant-loop decreases-loop
-returns-4 c = seeds-end _ _ _ _ c.before.loop.invariant.1 c.loop-test.false
+returns-4 c = seeds_end _ _ _ _ c.before.loop.invariant.1 c.loop-test.false
 
-pub bad-group-spec : {M : Type 1} → statement M
-bad-group-spec =
+pub bad_group_spec : {M : Type 1} → statement M
+bad_group_spec =
     tie.close
     (tie.spec
     invariant-loop

@@ -1,6 +1,6 @@
 -- `bad_groups` meets its contract.
 use Rattle.std.proofs.Common.{◌-◌, arith, rules}
-use Rattle.checks.specs.Groups.{Grouped, groups-start, group-bad, group-good, groups-end}
+use Rattle.checks.specs.Groups.{Grouped, groups_start, group_bad, group_good, groups_end}
 use Rattle.laws.specs.Tables.{row_fits}
 use Rattle.checks.proofs.sets.bad_groups.Statement.{statement}
 use Rattle.checks.proofs.sets.bad_groups.Tie as tie
@@ -12,7 +12,7 @@ abbrev decreases-loop : tie.decreases-loop
 decreases-loop n start extra count seeds g₀ g = count - g
 
 loop-holds : tie.Need-loop-init invariant-loop decreases-loop
-loop-holds c = groups-start _ _ _ _ _
+loop-holds c = groups_start _ _ _ _ _
 
 mul-a : tie.Need-overflow-mul-a invariant-loop decreases-loop
 mul-a c =
@@ -51,7 +51,7 @@ returns : tie.Need-returns invariant-loop decreases-loop
 returns c =
     let s = c.before.before.before.before in let t = s.before.before in
     let a = t.args in let o = s.loop in let h = c.before.before.before.loop-test.true in
-    group-bad a.n a.start a.extra a.count a.seeds.now o.g o.invariant h _ c.before.bad-group.ensures c.if1.true
+    group_bad a.n a.start a.extra a.count a.seeds.now o.g o.invariant h _ c.before.bad-group.ensures c.if1.true
 
 add-g : tie.Need-overflow-add-g invariant-loop decreases-loop
 add-g c = search rules
@@ -63,13 +63,13 @@ loop-again : tie.Need-loop-preserved invariant-loop decreases-loop
 loop-again c =
     let s = c.before.before.before.before in let t = s.before.before in
     let a = t.args in let o = s.loop in let h = c.before.before.before.loop-test.true in
-    group-good a.n a.start a.extra a.count a.seeds.now o.g o.invariant h _ c.before.bad-group.ensures c.if1.false
+    group_good a.n a.start a.extra a.count a.seeds.now o.g o.invariant h _ c.before.bad-group.ensures c.if1.false
 
 returns-2 : tie.Need-returns-2 invariant-loop decreases-loop
-returns-2 c = groups-end _ _ _ _ _ _ c.before.loop.invariant c.loop-test.false
+returns-2 c = groups_end _ _ _ _ _ _ c.before.loop.invariant c.loop-test.false
 
-pub bad-groups-spec : {M : Type 1} → statement M
-bad-groups-spec =
+pub bad_groups_spec : {M : Type 1} → statement M
+bad_groups_spec =
     tie.close
     (tie.spec
     invariant-loop

@@ -30,6 +30,6 @@ returns-3 c =
       c.has-repeat.ensures,
     ) refl
 
-pub bad-order-spec : {M : Type 1} → statement M
-bad-order-spec =
+pub bad_order_spec : {M : Type 1} → statement M
+bad_order_spec =
     tie.close (tie.spec returns all-below-requires returns-2 has-repeat-requires returns-3)

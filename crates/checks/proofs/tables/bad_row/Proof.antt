@@ -1,7 +1,7 @@
 -- `bad_row` meets its contract.
 use Rattle.std.proofs.Common.{◌-◌, sym, ◌∙◌, rules}
 use borrow.Author.Tests.{not-true, not-false}
-use Rattle.checks.specs.Rows.{row-bad-rest, row-end}
+use Rattle.checks.specs.Rows.{row_bad_rest, row_end}
 use Rattle.checks.proofs.tables.bad_row.Statement.{statement}
 use Rattle.checks.proofs.tables.bad_row.Tie as tie
 
@@ -26,7 +26,7 @@ only-padding-requires c κs = search rules
 returns : tie.Need-returns
 returns c =
     let k = c.before.before.before.count_entries in let t = c.before.before.before.before.before.before in let a = t.args in
-    row-bad-rest a.n a.own a.words.now t.requires.nodes k.result k.ensures.0 k.ensures.1
+    row_bad_rest a.n a.own a.words.now t.requires.nodes k.result k.ensures.0 k.ensures.1
     (sym c.before.only-padding.ensures ∙ not-true _ c.if1.true)
 
 cast-row-repeats : tie.Need-overflow-cast-row-repeats
@@ -51,11 +51,11 @@ returns-2 : tie.Need-returns-2
 returns-2 c =
     let p = c.before.before.before.before.before in let s = p.before.before.before in let k = s.count_entries in
     let t = s.before.before.before in let a = t.args in
-    row-end a.n a.own a.words.now t.requires.nodes k.result k.ensures.0 k.ensures.1
-    (sym p.before.only-padding.ensures ∙ not-false _ p.if1.false) _ c.before.before.row-repeats.ensures
+    row_end a.n a.own a.words.now t.requires.nodes k.result k.ensures.0 k.ensures.1
+    (sym p.before.only-padding.ensures ∙ not-false _ p.if1.false) _ c.before.before.row_repeats.ensures
 
-pub bad-row-spec : {M : Type 1} → statement M
-bad-row-spec =
+pub bad_row_spec : {M : Type 1} → statement M
+bad_row_spec =
     tie.close
     (tie.spec
     count-entries-requires

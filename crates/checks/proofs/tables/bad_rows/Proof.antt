@@ -2,7 +2,7 @@
 use Rattle.std.proofs.Common.{ℕ, ◌-◌, sym, arith, rules}
 use lib.ListN.{length-replicate}
 use Rattle.laws.specs.Tables.{row_fits}
-use Rattle.checks.specs.Rows.{Rowed, rows_start, row-ready, rows-bad, rows_more, rows_end}
+use Rattle.checks.specs.Rows.{Rowed, rows_start, row_ready, rows_bad, rows_more, rows_end}
 use Rattle.checks.proofs.tables.bad_rows.Statement.{statement}
 use Rattle.checks.proofs.tables.bad_rows.Tie as tie
 
@@ -52,13 +52,13 @@ bad-row-requires : tie.Need-bad-row-requires invariant-loop decreases-loop
 bad-row-requires c κs =
     let s = c.before.before.before in let t = s.before.before in
     let a = t.args in let o = s.loop in
-    row-ready a.n a.width a.table.now o.i o.marks o.invariant c.before.before.loop-test.true t.requires.0 t.requires.1 t.requires.2
+    row_ready a.n a.width a.table.now o.i o.marks o.invariant c.before.before.loop-test.true t.requires.0 t.requires.1 t.requires.2
 
 returns : tie.Need-returns invariant-loop decreases-loop
 returns c =
     let s = c.before.before.before.before.before.before in let t = s.before.before in
     let a = t.args in let o = s.loop in let h = c.before.before.before.before.before.loop-test.true in
-    rows-bad a.n a.width a.table.now o.i o.marks o.invariant h _ c.before.before.bad-row.ensures c.if1.true
+    rows_bad a.n a.width a.table.now o.i o.marks o.invariant h _ c.before.before.bad-row.ensures c.if1.true
 
 add-i : tie.Need-overflow-add-i invariant-loop decreases-loop
 add-i c = search rules
@@ -75,8 +75,8 @@ loop-again c =
 returns-2 : tie.Need-returns-2 invariant-loop decreases-loop
 returns-2 c = rows_end _ _ _ _ _ c.before.loop.invariant c.loop-test.false
 
-pub bad-rows-spec : {M : Type 1} → statement M
-bad-rows-spec =
+pub bad_rows_spec : {M : Type 1} → statement M
+bad_rows_spec =
     tie.close
     (tie.spec
     invariant-loop

@@ -1,6 +1,6 @@
 -- `bad_searched` meets its contract.
 use Rattle.std.proofs.Common.{◌-◌, sym, ◌∙◌, rules}
-use Rattle.checks.specs.Searched.{searched-length, searched-rule}
+use Rattle.checks.specs.Searched.{searched-length, searched_rule}
 use Rattle.checks.proofs.tables.bad_searched.Statement.{statement}
 use Rattle.checks.proofs.tables.bad_searched.Tie as tie
 
@@ -14,7 +14,7 @@ has-foreign-requires : tie.Need-has-foreign-requires
 has-foreign-requires c κs = search rules
 
 returns-2 : tie.Need-returns-2
-returns-2 c = c.has-foreign.ensures ∙ sym (searched-rule _ _ _ (sym c.before.before.bad-length.ensures ∙ c.before.if1.false))
+returns-2 c = c.has-foreign.ensures ∙ sym (searched_rule _ _ _ (sym c.before.before.bad-length.ensures ∙ c.before.if1.false))
 
-pub bad-searched-spec : {M : Type 1} → statement M
-bad-searched-spec = tie.close (tie.spec bad-length-requires returns has-foreign-requires returns-2)
+pub bad_searched_spec : {M : Type 1} → statement M
+bad_searched_spec = tie.close (tie.spec bad-length-requires returns has-foreign-requires returns-2)

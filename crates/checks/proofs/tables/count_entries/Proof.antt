@@ -1,6 +1,6 @@
 -- `count_entries` meets its contract.
 use Rattle.std.proofs.Common.{◌-◌, length, sym, subst, ⊎_elim, arith, rules}
-use Rattle.checks.specs.Front.{Counted, count-start, count-one, count-other, count-end}
+use Rattle.checks.specs.Front.{Counted, count-start, count_one, count_other, count_end}
 use Rattle.checks.proofs.tables.count_entries.Statement.{statement}
 use Rattle.checks.proofs.tables.count_entries.Tie as tie
 
@@ -35,18 +35,18 @@ loop-again : tie.Need-loop-preserved invariant-loop decreases-loop
 loop-again c =
     let s = c.before.before in let t = s.before in let a = t.before.args in let o = t.loop in
     ⊎_elim
-    (λ w. subst (Counted _ _ _) (sym w.1) (count-one a.n a.words.now o.i o.count o.invariant s.loop-test.true w.0.taken))
-    (λ w. subst (Counted _ _ _) (sym w.1) (count-other a.n a.words.now o.i o.count o.invariant s.loop-test.true w.0.left))
+    (λ w. subst (Counted _ _ _) (sym w.1) (count_one a.n a.words.now o.i o.count o.invariant s.loop-test.true w.0.taken))
+    (λ w. subst (Counted _ _ _) (sym w.1) (count_other a.n a.words.now o.i o.count o.invariant s.loop-test.true w.0.left))
     c.if1.branch
 
 cast-result : tie.Need-overflow-cast-result invariant-loop decreases-loop
 cast-result c = search rules
 
 returns : tie.Need-returns invariant-loop decreases-loop
-returns c = (count-end _ _ _ _ c.before.loop.invariant c.loop-test.false, omega arith)
+returns c = (count_end _ _ _ _ c.before.loop.invariant c.loop-test.false, omega arith)
 
-pub count-entries-spec : {M : Type 1} → statement M
-count-entries-spec =
+pub count_entries_spec : {M : Type 1} → statement M
+count_entries_spec =
     tie.close
     (tie.spec
     invariant-loop

@@ -1,13 +1,13 @@
 -- `has_foreign` meets its contract.
 use Rattle.std.proofs.Common.{◌-◌, length, sym, subst, ⊎_elim, arith, rules}
-use Rattle.laws.specs.Looked.{Looked, look-start, look-bad, look-good, look-end}
-use Rattle.checks.specs.Foreign.{isWord, word-foreign, word-fine}
-use Rattle.definition.specs.Tables.{searchRule}
+use Rattle.laws.specs.Looked.{Looked, look-start, look_bad, look_good, look_end}
+use Rattle.checks.specs.Foreign.{is_word, word_foreign, word_fine}
+use Rattle.definition.specs.Tables.{search_rule}
 use Rattle.checks.proofs.tables.has_foreign.Statement.{statement}
 use Rattle.checks.proofs.tables.has_foreign.Tie as tie
 
 abbrev invariant-loop : tie.invariant-loop
-invariant-loop n words most found₀ i₀ found i = Looked (isWord n) words i found
+invariant-loop n words most found₀ i₀ found i = Looked (is_word n) words i found
 
 abbrev decreases-loop : tie.decreases-loop
 decreases-loop n words most found₀ i₀ found i = length words - i
@@ -40,17 +40,17 @@ loop-again c =
     let up = c.before.wrapping-add-u32 in let fits = (s.shared-slice-known2.given u.loop.i).fits in
     ⊎_elim
     (λ w. subst (Looked _ _ _) (sym w.1)
-    (look-bad (isWord n) l o.i o.found o.invariant h (word-foreign n _ up.result fits up.ensures w.0.taken)))
+    (look_bad (is_word n) l o.i o.found o.invariant h (word_foreign n _ up.result fits up.ensures w.0.taken)))
     (λ w. subst (Looked _ _ _) (sym w.1)
-    (look-good (isWord n) l o.i o.found o.invariant h (word-fine n _ up.result fits up.ensures w.0.left)))
+    (look_good (is_word n) l o.i o.found o.invariant h (word_fine n _ up.result fits up.ensures w.0.left)))
     c.if1.branch
 
 returns : tie.Need-returns invariant-loop decreases-loop
-unfolding searchRule
-returns c = look-end _ _ _ _ c.before.loop.invariant c.loop-test.false
+unfolding search_rule
+returns c = look_end _ _ _ _ c.before.loop.invariant c.loop-test.false
 
-pub has-foreign-spec : {M : Type 1} → statement M
-has-foreign-spec =
+pub has_foreign_spec : {M : Type 1} → statement M
+has_foreign_spec =
     tie.close
     (tie.spec
     invariant-loop

@@ -10,5 +10,5 @@ returns c = sym (mod-eq_of_lt c.if1.true)
 returns-2 : tie.Need-returns-2
 returns-2 c = sym (mod-eq-sub-mod c.if1.false ∙ mod-eq_of_lt (omega arith))
 
-pub wrapped-spec : {M : Type 1} → statement M
-wrapped-spec = tie.close (tie.spec returns returns-2)
+pub wrapped_spec : {M : Type 1} → statement M
+wrapped_spec = tie.close (tie.spec returns returns-2)

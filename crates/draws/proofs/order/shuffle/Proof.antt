@@ -1,7 +1,7 @@
 -- `shuffle` meets its contract. The invariant: the exchanges from i down, done to what stands now, lead to the whole shuffle.
 use Rattle.std.proofs.Common.{get_or, arith, length-set, rules}
 use Rattle.definition.specs.Draws.{drawn}
-use Rattle.draws.specs.Order.{Shuffling, shuffle-start, shuffle-turn, shuffle-end}
+use Rattle.draws.specs.Order.{Shuffling, shuffle_start, shuffle_turn, shuffle_end}
 use Rattle.draws.proofs.order.shuffle.Statement.{statement}
 use Rattle.draws.proofs.order.shuffle.Tie as tie
 
@@ -15,7 +15,7 @@ sub-i : tie.Need-overflow-sub-i invariant-loop decreases-loop
 sub-i c = search rules
 
 loop-holds : tie.Need-loop-init invariant-loop decreases-loop
-loop-holds c = shuffle-start _ _ (omega arith)
+loop-holds c = shuffle_start _ _ (omega arith)
 
 advance-requires : tie.Need-advance-requires invariant-loop decreases-loop
 advance-requires c κs = search rules
@@ -67,17 +67,17 @@ loop-less c = omega arith
 
 loop-again : tie.Need-loop-preserved invariant-loop decreases-loop
 loop-again c =
-    shuffle-turn _ _ _ _ _ _ _ (omega arith) c.before.before.drawn.ensures.is
+    shuffle_turn _ _ _ _ _ _ _ (omega arith) c.before.before.drawn.ensures.is
     c.before.before.before.advance.ensures c.before.before.before.before.before.loop.invariant
 
 same_length : tie.Need-same-length invariant-loop decreases-loop
 same_length c = c.before.loop.invariant.size
 
 returns : tie.Need-returns invariant-loop decreases-loop
-returns c = shuffle-end _ _ _ _ _ c.loop-test.false c.before.loop.invariant
+returns c = shuffle_end _ _ _ _ _ c.loop-test.false c.before.loop.invariant
 
-pub shuffle-spec : {M : Type 1} → statement M
-shuffle-spec =
+pub shuffle_spec : {M : Type 1} → statement M
+shuffle_spec =
     tie.close
     (tie.spec
     invariant-loop

@@ -1,6 +1,6 @@
 -- `fill_draws` meets its contract. The invariant: what is still to be drawn, from the state as it is, completes the draws.
 use Rattle.std.proofs.Common.{◌-◌, ◌≤◌, arith, rules}
-use Rattle.draws.specs.Pivots.{Drawing, draws-start, draws-turn, draws-end}
+use Rattle.draws.specs.Pivots.{Drawing, draws_start, draws_turn, draws_end}
 use Rattle.draws.proofs.pivots.fill_draws.Statement.{statement}
 use Rattle.draws.proofs.pivots.fill_draws.Tie as tie
 
@@ -11,7 +11,7 @@ abbrev decreases-loop : tie.decreases-loop
 decreases-loop state n many out₀ s₀ i₀ out s i = many - i
 
 loop-holds : tie.Need-loop-init invariant-loop decreases-loop
-loop-holds c = (omega arith, draws-start _ _ _ _)
+loop-holds c = (omega arith, draws_start _ _ _ _)
 
 advance-requires : tie.Need-advance-requires invariant-loop decreases-loop
 advance-requires c κs = search rules
@@ -34,17 +34,17 @@ loop-less c = omega arith
 loop-again : tie.Need-loop-preserved invariant-loop decreases-loop
 loop-again c = let l = c.before.before.before.loop in (
   omega arith,
-  rw (c.drawn.ensures.is, c.before.advance.ensures) (draws-turn _ _ _ _ _ _ _ l.invariant.1 (omega arith) (omega (arith, l.invariant.1.words.size))),
+  rw (c.drawn.ensures.is, c.before.advance.ensures) (draws_turn _ _ _ _ _ _ _ l.invariant.1 (omega arith) (omega (arith, l.invariant.1.words.size))),
 )
 
 same_length : tie.Need-same-length invariant-loop decreases-loop
 same_length c = c.before.loop.invariant.1.words.size
 
 returns : tie.Need-returns invariant-loop decreases-loop
-returns c = let l = c.before.loop in draws-end _ _ _ _ _ _ _ l.invariant.1 (omega arith) (omega (arith, l.invariant.1.words.size))
+returns c = let l = c.before.loop in draws_end _ _ _ _ _ _ _ l.invariant.1 (omega arith) (omega (arith, l.invariant.1.words.size))
 
-pub fill-draws-spec : {M : Type 1} → statement M
-fill-draws-spec =
+pub fill_draws_spec : {M : Type 1} → statement M
+fill_draws_spec =
     tie.close
     (tie.spec
     invariant-loop

@@ -1,6 +1,6 @@
 -- `fill_rows` meets its contract. The invariant: the rows from i on, from the state as it is, complete the table.
 use Rattle.std.proofs.Common.{◌+◌, ◌-◌, ◌*◌, ◌≤◌, length, ◌∙◌, arith, rules}
-use Rattle.draws.specs.Rows.{Rowing, row_within, rows_start, rows-turn, rows_end}
+use Rattle.draws.specs.Rows.{Rowing, row_within, rows_start, rows_turn, rows_end}
 use Rattle.draws.proofs.rows.fill_rows.Statement.{statement}
 use Rattle.draws.proofs.rows.fill_rows.Tie as tie
 
@@ -69,7 +69,7 @@ loop-again c =
     let t = d.before.before in
     let l = t.before.loop in (
       omega arith,
-      rows-turn _ _ _ _ _ _ _ l.invariant.1 _ _ _ t.loop-test.true (l.invariant.1.words.size ∙ t.before.before.before.requires.2)
+      rows_turn _ _ _ _ _ _ _ l.invariant.1 _ _ _ t.loop-test.true (l.invariant.1.words.size ∙ t.before.before.before.requires.2)
           d.drawn.ensures.is d.before.advance.ensures w.write-row.ensures,
     )
 
@@ -79,8 +79,8 @@ same_length c = c.before.loop.invariant.1.words.size
 returns : tie.Need-returns invariant-loop decreases-loop
 returns c = let l = c.before.loop in rows_end _ _ _ _ _ _ _ l.invariant.1 (omega arith) (l.invariant.1.words.size ∙ c.before.before.before.requires.2)
 
-pub fill-rows-spec : {M : Type 1} → statement M
-fill-rows-spec =
+pub fill_rows_spec : {M : Type 1} → statement M
+fill_rows_spec =
     tie.close
     (tie.spec
     invariant-loop

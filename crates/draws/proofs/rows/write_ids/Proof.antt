@@ -1,8 +1,8 @@
 -- `write_ids` meets its contract. The invariant: step is (r + j) mod (n-1), and each word before j is the row's id.
 use Rattle.std.proofs.Common.{◌≡◌, ℕ, ◌+◌, ◌-◌, ◌%◌, ◌<◌, ◌≤◌, length, ap, ◌∙◌, mod-lt, arith, rules}
-use Rattle.definition.specs.Draws.{rowIds}
-use Rattle.draws.specs.Places.{Placing, place-start, place-turn, place_end}
-use Rattle.draws.specs.Rows.{id_at, step-first, step-next}
+use Rattle.definition.specs.Draws.{row_ids}
+use Rattle.draws.specs.Places.{Placing, place_start, place_turn, place_end}
+use Rattle.draws.specs.Rows.{id_at, step-first, step_next}
 use Rattle.draws.proofs.rows.write_ids.Statement.{statement}
 use Rattle.draws.proofs.rows.write_ids.Tie as tie
 
@@ -13,7 +13,7 @@ abbrev decreases-loop : tie.decreases-loop
 decreases-loop n i r ids₀ step₀ j₀ ids step j = length ids₀ - j
 
 loop-holds : tie.Need-loop-init invariant-loop decreases-loop
-loop-holds c = let below = c.before.requires.3 in (omega arith, step-first _ _ below, below, place-start _ _ _)
+loop-holds c = let below = c.before.requires.3 in (omega arith, step-first _ _ below, below, place_start _ _ _)
 
 add-wrapped : tie.Need-overflow-add-wrapped invariant-loop decreases-loop
 add-wrapped c = search rules
@@ -52,20 +52,20 @@ loop-again c =
     let id : c.before.wrapped.result ≡ id_at _ _ _ l.j = c.before.wrapped.ensures ∙ ap (λ (x : ℕ). (a.i + 1 + x) % a.n) l.invariant.1 in
     let next = c.wrapped2.ensures in (
       omega (arith, l.invariant.3.size),
-      next ∙ step-next _ _ _ _ l.invariant.1,
+      next ∙ step_next _ _ _ _ l.invariant.1,
       rw next (mod-lt _ (omega arith)),
-      rw id (place-turn _ _ _ _ _ l.invariant.3 (omega arith) (omega (arith, l.invariant.3.size))),
+      rw id (place_turn _ _ _ _ _ l.invariant.3 (omega arith) (omega (arith, l.invariant.3.size))),
     )
 
 same_length : tie.Need-same-length invariant-loop decreases-loop
 same_length c = c.before.loop.invariant.3.size
 
 returns : tie.Need-returns invariant-loop decreases-loop
-unfolding rowIds
+unfolding row_ids
 returns c = let l = c.before.loop in place_end _ _ _ _ _ l.invariant.3 (omega (arith, l.invariant.3.size)) c.loop-test.false
 
-pub write-ids-spec : {M : Type 1} → statement M
-write-ids-spec =
+pub write_ids_spec : {M : Type 1} → statement M
+write_ids_spec =
     tie.close
     (tie.spec
     invariant-loop

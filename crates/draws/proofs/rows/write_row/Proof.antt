@@ -36,8 +36,8 @@ returns c =
     row_written _ _ _ _ _ _ _ c.before.before.before.before.before.before.before.before.least.ensures
     c.before.before.before.before.before.before.write-ids.ensures c.before.before.pad-from.ensures
 
-pub write-row-spec : {M : Type 1} → statement M
-write-row-spec =
+pub write_row_spec : {M : Type 1} → statement M
+write_row_spec =
     tie.close
     (tie.spec
     sub-least

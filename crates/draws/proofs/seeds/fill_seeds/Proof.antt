@@ -1,6 +1,6 @@
 -- `fill_seeds` meets its contract. The invariant: the seeds still to be drawn, after the k that stand, lead to the whole group.
 use Rattle.std.proofs.Common.{◌-◌, ◌≤◌, arith, rules}
-use Rattle.draws.specs.Seeds.{Grouping, group-start, group-turn, group-end}
+use Rattle.draws.specs.Seeds.{Grouping, group_start, group_turn, group_end}
 use Rattle.draws.proofs.seeds.fill_seeds.Statement.{statement}
 use Rattle.draws.proofs.seeds.fill_seeds.Tie as tie
 
@@ -11,7 +11,7 @@ abbrev decreases-loop : tie.decreases-loop
 decreases-loop state n start extra out₀ s₀ k₀ out s k = extra - k
 
 loop-holds : tie.Need-loop-init invariant-loop decreases-loop
-loop-holds c = (omega arith, group-start _ _ _ _ _)
+loop-holds c = (omega arith, group_start _ _ _ _ _)
 
 advance-requires : tie.Need-advance-requires invariant-loop decreases-loop
 advance-requires c κs = search rules
@@ -49,7 +49,7 @@ loop-again c =
     let t = d.before.before in
     let l = t.before.loop in (
       omega arith,
-      group-turn _ _ _ _ _ _ _ _ l.invariant.1 _ _ _ t.loop-test.true (omega (arith, l.invariant.1.written.size))
+      group_turn _ _ _ _ _ _ _ _ l.invariant.1 _ _ _ t.loop-test.true (omega (arith, l.invariant.1.written.size))
           d.drawn.ensures.is d.before.advance.ensures c.first-free.ensures,
     )
 
@@ -57,10 +57,10 @@ same_length : tie.Need-same-length invariant-loop decreases-loop
 same_length c = c.before.loop.invariant.1.written.size
 
 returns : tie.Need-returns invariant-loop decreases-loop
-returns c = let l = c.before.loop in group-end _ _ _ _ _ _ _ _ l.invariant.1 (omega arith) (omega (arith, l.invariant.1.written.size))
+returns c = let l = c.before.loop in group_end _ _ _ _ _ _ _ _ l.invariant.1 (omega arith) (omega (arith, l.invariant.1.written.size))
 
-pub fill-seeds-spec : {M : Type 1} → statement M
-fill-seeds-spec =
+pub fill_seeds_spec : {M : Type 1} → statement M
+fill_seeds_spec =
     tie.close
     (tie.spec
     invariant-loop

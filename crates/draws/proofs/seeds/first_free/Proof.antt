@@ -1,13 +1,13 @@
 -- `first_free` meets its contract. The invariant: the search from x leads to the same entry as the search from r.
 use Rattle.std.proofs.Common.{◌≡◌, ◌<◌, ◌≤◌, ◌∷◌, sym, refl, ◌∙◌, mod-lt, arith, rules}
 use borrow.Author.Tests.{not-true, not-false}
-use Rattle.definition.specs.Draws.{firstFree}
-use Rattle.draws.specs.Seeds.{free-turn, free-here, free-end}
+use Rattle.definition.specs.Draws.{first_free}
+use Rattle.draws.specs.Seeds.{free_turn, free_here, free_end}
 use Rattle.draws.proofs.seeds.first_free.Statement.{statement}
 use Rattle.draws.proofs.seeds.first_free.Tie as tie
 
 abbrev invariant-loop : tie.invariant-loop
-invariant-loop n start group r x₀ left₀ x left = (x < n) × (left ≤ n) × (firstFree n (start ∷ group) left x ≡ firstFree n (start ∷ group) n r)
+invariant-loop n start group r x₀ left₀ x left = (x < n) × (left ≤ n) × (first_free n (start ∷ group) left x ≡ first_free n (start ∷ group) n r)
 
 abbrev decreases-loop : tie.decreases-loop
 decreases-loop n start group r x₀ left₀ x left = left
@@ -21,7 +21,7 @@ is-taken-requires c κs = search rules
 returns : tie.Need-returns invariant-loop decreases-loop
 returns c =
     let l = c.before.before.before.loop in
-    free-here _ _ _ _ _ l.invariant.0 l.invariant.2 c.before.before.loop-test.true (sym (not-true _ c.if1.true) ∙ c.before.is-taken.ensures)
+    free_here _ _ _ _ _ l.invariant.0 l.invariant.2 c.before.before.loop-test.true (sym (not-true _ c.if1.true) ∙ c.before.is-taken.ensures)
 
 add-wrapped : tie.Need-overflow-add-wrapped invariant-loop decreases-loop
 add-wrapped c = search rules
@@ -42,14 +42,14 @@ loop-again c =
     let next = c.wrapped.ensures in (
       rw next (mod-lt _ (omega arith)),
       omega arith,
-      rw next (free-turn _ _ _ _ _ l.invariant.0 l.invariant.2 c.before.before.before.loop-test.true taken),
+      rw next (free_turn _ _ _ _ _ l.invariant.0 l.invariant.2 c.before.before.before.loop-test.true taken),
     )
 
 returns-2 : tie.Need-returns-2 invariant-loop decreases-loop
-returns-2 c = let l = c.before.loop in free-end _ _ _ _ _ l.invariant.0 l.invariant.2 c.loop-test.false
+returns-2 c = let l = c.before.loop in free_end _ _ _ _ _ l.invariant.0 l.invariant.2 c.loop-test.false
 
-pub first-free-spec : {M : Type 1} → statement M
-first-free-spec =
+pub first_free_spec : {M : Type 1} → statement M
+first_free_spec =
     tie.close
     (tie.spec
     invariant-loop

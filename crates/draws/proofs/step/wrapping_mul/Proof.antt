@@ -30,8 +30,8 @@ returns c =
     c.wrapping-add-u642.ensures ∙ ap (λ (m : ℕ). (lo c + m % 4294967296 * 4294967296) % 18446744073709551616) c.before.wrapping-add-u64.ensures
     ∙ product c.before.before.args.a c.before.before.args.b
 
-pub wrapping-mul-spec : {M : Type 1} → statement M
-wrapping-mul-spec =
+pub wrapping_mul_spec : {M : Type 1} → statement M
+wrapping_mul_spec =
     tie.close
     (tie.spec
     mul_low

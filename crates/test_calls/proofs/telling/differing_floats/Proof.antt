@@ -36,8 +36,8 @@ loop-again c = omega arith
 returns : tie.Need-returns invariant-loop decreases-loop
 returns c = search rules
 
-pub differing-floats-spec : {M : Type 1} → statement M
-differing-floats-spec =
+pub differing_floats_spec : {M : Type 1} → statement M
+differing_floats_spec =
     tie.close
     (tie.spec
     invariant-loop

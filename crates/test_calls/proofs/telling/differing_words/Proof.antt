@@ -36,8 +36,8 @@ loop-again c = omega arith
 returns : tie.Need-returns invariant-loop decreases-loop
 returns c = search rules
 
-pub differing-words-spec : {M : Type 1} → statement M
-differing-words-spec =
+pub differing_words_spec : {M : Type 1} → statement M
+differing_words_spec =
     tie.close
     (tie.spec
     invariant-loop
