@@ -86,7 +86,7 @@ fn add_visited(words: &mut [u32], n: usize, visited: usize, stamp: u32, len: usi
 }
 
 // What a walk leaves of the pool: the walk's epoch, and how many ids the pool has.
-#[derive(Drop)]
+#[derive(Clone, Copy)]
 pub struct Collected {
     pub epoch: u32,
     pub len: usize,

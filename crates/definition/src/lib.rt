@@ -6,7 +6,7 @@ ghost use Rattle.definition.specs.Defaults.{defaults};
 // What every public call returns: its number, and the fields that it fills. A search fills the last two: how many entries' rows it walked, and how many
 // distances it worked out.
 #[repr(C)]
-#[derive(Drop)]
+#[derive(Clone, Copy)]
 pub struct Answer {
     pub number: u32,
     pub count: usize,
@@ -19,7 +19,7 @@ pub struct Answer {
 
 // The build parameters.
 #[repr(C)]
-#[derive(Drop)]
+#[derive(Clone, Copy)]
 pub struct Params {
     pub degree: usize,
     pub beam: usize,
@@ -51,7 +51,7 @@ impl Params {
 
 // One answer of a search.
 #[repr(C)]
-#[derive(Drop)]
+#[derive(Clone, Copy)]
 pub struct Candidate {
     pub id: u32,
     pub distance: f32,
@@ -60,7 +60,7 @@ pub struct Candidate {
 // What a report returns: its number; how many queries there were, how many entries were asked for, how many of the true nearest the searches brought, and for
 // how many queries they brought all.
 #[repr(C)]
-#[derive(Drop)]
+#[derive(Clone, Copy)]
 pub struct Report {
     pub number: u32,
     pub queries: usize,

@@ -17,7 +17,7 @@ mod step; // the generator's step, and the draw that a state gives
 
 // A state, and what a call answers.
 #[repr(C)]
-#[derive(Drop)]
+#[derive(Clone, Copy)]
 pub struct Stepped {
     pub state: u64,
     pub answer: Answer,

@@ -2,7 +2,7 @@
 use definition::Params;
 
 // n entries of dim samples. A row of the wide table has `slack` words, the slack of the parameters' degree.
-#[derive(Drop)]
+#[derive(Clone, Copy)]
 pub struct Ground {
     pub n: usize,
     pub dim: usize,

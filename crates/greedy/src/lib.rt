@@ -14,7 +14,7 @@ ghost use Rattle.greedy.specs.Scratch.{Measures, Ground, from_start, walk_of, st
 use kept::Work;
 
 // What a walk goes by: n entries of dim bytes, and rows of width words; and whether it keeps a list of all that it visits.
-#[derive(Drop)]
+#[derive(Clone, Copy)]
 pub struct Plan {
     pub n: usize,
     pub dim: usize,
@@ -24,14 +24,14 @@ pub struct Plan {
 }
 
 // How many were visited, and what work has.
-#[derive(Drop)]
+#[derive(Clone, Copy)]
 pub struct Counts {
     pub visited: usize,
     pub work: Work,
 }
 
 // What a walk leaves: the epoch, and how many it visited, expanded and kept.
-#[derive(Drop)]
+#[derive(Clone, Copy)]
 pub struct Walked {
     pub epoch: u32,
     pub visited: usize,

@@ -6,7 +6,7 @@ ghost use Rattle.laws.specs.All.{All};
 ghost use Rattle.kept.specs.Says.{no_work, bound_k, halts_k, standing, Working, Admitted, Met, Next, Pops};
 
 // How many items work has, how many of these, the best, are walked, and what the key of a further item must be below to come in.
-#[derive(Drop)]
+#[derive(Clone, Copy)]
 pub struct Work {
     pub len: usize,
     pub done: usize,
@@ -14,7 +14,7 @@ pub struct Work {
 }
 
 // The best that was open: whether there is one to walk, its id, and how many are walked with it.
-#[derive(Drop)]
+#[derive(Clone, Copy)]
 pub struct Popped {
     pub found: bool,
     pub id: u32,

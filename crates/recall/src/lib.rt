@@ -14,7 +14,7 @@ ghost use Rattle.recall.specs.Asking.{call_of, out_of, QueryAccepted, QueriesAcc
 use definition::Report;
 
 // What a report asks of each query: the k nearest of n entries of dim bytes, by a search that begins at `start`, on a table of rows of `degree` words.
-#[derive(Drop)]
+#[derive(Clone, Copy)]
 struct Asked {
     n: usize,
     dim: usize,
@@ -25,14 +25,14 @@ struct Asked {
 }
 
 // What a query gives: the epoch that it came to, and how many of its nearest were found.
-#[derive(Drop)]
+#[derive(Clone, Copy)]
 struct Brought {
     epoch: u32,
     hits: usize,
 }
 
 // How many of the nearest were found, and for how many queries all.
-#[derive(Drop)]
+#[derive(Clone, Copy)]
 struct Tally {
     found: usize,
     whole: usize,

@@ -27,7 +27,7 @@ fn raised(beam: usize) -> usize
 }
 
 // What a walk gives: the epoch that it came to, how many answers there are, and how many entries it expanded and measured.
-#[derive(Drop)]
+#[derive(Clone, Copy)]
 pub struct Found {
     pub epoch: u32,
     pub count: usize,

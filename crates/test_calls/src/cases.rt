@@ -23,7 +23,7 @@ fn named_alpha(i: u32) -> f32 {
 }
 
 // The numbers of a case, and the place of its first list.
-#[derive(Drop)]
+#[derive(Clone, Copy)]
 pub struct Case {
     pub kind: u32,
     pub n: usize,

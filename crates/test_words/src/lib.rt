@@ -70,7 +70,7 @@ fn put_word(words: &mut [u32], at: usize, x: u32)
 }
 
 // How far a text is read: what its last byte stands in, the place of the word that is being read or comes next, and its value so far.
-#[derive(Drop)]
+#[derive(Clone, Copy)]
 struct Reading {
     part: u32,
     at: usize,
