@@ -1,4 +1,6 @@
 // Part 6 whole: a batch, on accepted input and as the public call.
+#![tactic(auto)]
+
 ghost use Rattle.definition.specs.Outcome.{BatchMeets};
 ghost use Rattle.given.specs.Given.{given};
 ghost use Rattle.given.specs.Listing.{listing};

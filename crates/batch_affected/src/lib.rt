@@ -1,4 +1,6 @@
 // Part 6, the merge: the ids of one affected node.
+#![tactic(auto)]
+
 ghost use Rattle.std.specs.Prelude.{◌≡◌, ◌+◌, ◌-◌, ◌*◌, ◌≤◌, ◌<◌, length};
 ghost use Rattle.definition.specs.Tables.{row};
 ghost use Rattle.laws.specs.Listed.{fresh_width};

@@ -1,5 +1,7 @@
 // Part 6: which listed nodes name an id. One chain for each id runs through the entries of the fresh rows, from the last to the first:
 // heads[id] and links[entry] hold one more than the entry that comes next, 0 at the end. No counting, no offsets, each entry is touched once.
+#![tactic(auto)]
+
 ghost use Rattle.std.specs.Prelude.{◌≡◌, ℕ, ◌+◌, ◌-◌, ◌≤◌, ◌<◌, length, get_or};
 ghost use Rattle.laws.specs.Words.{Below};
 ghost use Rattle.scratch.specs.Layout.{heads_at, links_at, links_end, fresh_at};

@@ -1,4 +1,6 @@
 // Part 6, the fresh rows: for each listed node its pool, and the row pruned from it, within the two slices of scratch.
+#![tactic(auto)]
+
 ghost use Rattle.std.specs.Prelude.{◌≡◌, ◌+◌, ◌≤◌, ◌<◌, length};
 ghost use Rattle.scratch.specs.Layout.{most_factors};
 ghost use Rattle.scratch.specs.Lent.{lent};

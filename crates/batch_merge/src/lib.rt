@@ -1,4 +1,6 @@
 // Part 6, the merge of a batch: chains and seats are made in the scratch, and then each affected row is written anew, in place.
+#![tactic(auto)]
+
 ghost use Rattle.std.specs.Prelude.{◌≡◌, ◌+◌, ◌*◌, ◌≤◌, ◌<◌, length};
 ghost use Rattle.definition.specs.Batch.{affected, merged};
 ghost use Rattle.scratch.specs.Layout.{most_factors};

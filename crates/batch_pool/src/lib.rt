@@ -1,4 +1,5 @@
 // Part 6, the pool of one node: its row, and all visited by one walk from the start and one from each of its seeds, once per id.
+#![tactic(auto)]
 
 ghost use Rattle.std.specs.Prelude.{◌≡◌, [], ◌∷◌, map, ◌+◌, ◌≤◌, ◌<◌, length};
 ghost use Rattle.definition.specs.Metric.{from_query};

@@ -1,4 +1,6 @@
 // Part 7, the public calls: open, close and the whole build.
+#![tactic(auto)]
+
 ghost use Rattle.std.specs.Prelude.{◌≡◌, ◌+◌, ◌≤◌, min};
 ghost use Rattle.definition.specs.Outcome.{OpenMeets, CloseMeets, BuildMeets};
 ghost use Rattle.given.specs.Given.{given};

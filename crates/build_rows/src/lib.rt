@@ -1,4 +1,6 @@
 // Part 7 on accepted input: opening rows become rows of the wide table, and its rows become those of the closed one.
+#![tactic(auto)]
+
 ghost use Rattle.std.specs.Prelude.{◌≡◌, ◌+◌, ◌*◌, ◌<◌, length};
 ghost use Rattle.definition.specs.Build.{open', close};
 ghost use Rattle.given.specs.Given.{given, setting};

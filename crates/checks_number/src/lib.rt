@@ -1,5 +1,6 @@
 // The number of each public call: that of the first test that holds, in rising order, and 0 for none.
 // What a call is lent for writing and does not read is given by its length.
+#![tactic(auto)]
 
 ghost use Rattle.std.specs.Prelude.{◌≡◌, ◌≤◌};
 ghost use Rattle.definition.specs.Tables.{cleaned};

@@ -1,5 +1,6 @@
 // The numbers of an exhaustive search and of a report: that of the first test that holds, in rising order, and 0 for none. All that no test reads is given by
 // its length, the queries too.
+#![tactic(auto)]
 
 ghost use Rattle.std.specs.Prelude.{◌≡◌, ◌≤◌};
 ghost use Rattle.definition.specs.Refusals.{bad_k};

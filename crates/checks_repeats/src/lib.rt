@@ -1,4 +1,5 @@
 // Whether an id stands twice: one pass over the ids, with little room.
+#![tactic(auto)]
 
 ghost use Rattle.std.specs.Prelude.{◌≡◌, not, [], ◌∷◌, length};
 ghost use Rattle.definition.specs.Lists.{is_in, distinct};

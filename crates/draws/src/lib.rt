@@ -1,5 +1,6 @@
 // Part 10. Supplied draws, by value: each call takes the generator's state and returns the next one.
 // A refusal returns the state as it came, and leaves the lent slice as it was. The calls on a lent generator are in the crate `generator`.
+#![tactic(auto)]
 
 ghost use Rattle.std.specs.Prelude.{◌≡◌};
 ghost use Rattle.definition.specs.Outcome.{refused, done};

@@ -2,6 +2,7 @@
 // Each says what the call itself says: what it returns and leaves is a function of everything at entry (crate definition, Outcome).
 // A generator goes by value too: its state is given, and the state after the call comes back beside the answer (the same state, if refused).
 // Nothing asks a caller in C that a slice is as long as it says, or that two slices that are lent for writing lie apart: that is the caller's.
+#![tactic(auto)]
 
 ghost use Rattle.std.specs.Prelude.{◌≡◌};
 ghost use Rattle.definition.specs.Defaults.{defaults};

@@ -1,6 +1,7 @@
 // Part 4. The greedy walk from a start over the rows of a flat table of any width; one walk serves search and build. A word of the table that is no entry
 // reads as padding, so that a walk asks nothing of its table but the length. Crate kept has work and frontier, crate scratch says where in the words marks
 // and visited lie.
+#![tactic(auto)]
 
 ghost use Rattle.std.specs.Prelude.{◌≡◌, ◌+◌, ◌≤◌, ◌<◌, length, replicate};
 ghost use Rattle.definition.specs.Metric.{from_query};

@@ -1,5 +1,6 @@
 // Part 4, work and frontier in one beam. What the frontier has and work has not was cut from a full work: it is no nearer than the worst, so the walk ends
 // before it is reached. So work alone is kept, in 256 keys, and an item is open while its row is not yet walked: the open ones are the frontier.
+#![tactic(auto)]
 
 ghost use Rattle.std.specs.Prelude.{◌≡◌, ℕ, ◌+◌, ◌≤◌, ◌<◌, length};
 ghost use Rattle.laws.specs.All.{All};

@@ -1,5 +1,6 @@
 // Part 9 and 3/13. The answers of a query, from keys that rise: by distance, then the higher id. A distance becomes an f32 here and nowhere before; a cast
 // would ask that it is small, the nearest f32 asks nothing.
+#![tactic(auto)]
 
 ghost use Rattle.std.specs.Prelude.{◌<◌, ◌≤◌, map, length, take};
 ghost use Rattle.definition.specs.Search.{ranked};

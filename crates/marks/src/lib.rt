@@ -1,5 +1,6 @@
 // Part 3. Marks: an entry is visited where its mark is the epoch. They lie from 0 on in the words, and word n is one mark more, of what is no entry: it is
 // the epoch in every walk, so that no word of a row needs a test of its own (crate scratch says where all lies).
+#![tactic(auto)]
 
 ghost use Rattle.std.specs.Prelude.{◌≡◌, ◌+◌, ◌≤◌, ◌<◌, length};
 ghost use Rattle.theory.specs.build.Walks.{epoch_end};

@@ -1,4 +1,5 @@
 // Part 8. Medoid: the entry with the least sum of distances to the pivots, the lower id on equality.
+#![tactic(auto)]
 
 ghost use Rattle.std.specs.Prelude.{◌≡◌, ℕ, ◌*◌, ◌≤◌, ◌<◌, length, get_or};
 ghost use Rattle.definition.specs.Metric.{between};

@@ -1,4 +1,5 @@
 // Part 1, with 5/13's rule. The distance of two vectors: the sum of squared byte differences, a whole number. A sample that is 255 in either adds nothing.
+#![tactic(auto)]
 
 ghost use Rattle.std.specs.Prelude.{◌≡◌, cond, ℕ, ◌+◌, ◌-◌, ◌*◌, ◌%◌, ◌<◌, ◌≤◌, min, max, length, get_or, drop};
 ghost use Rattle.definition.specs.Lists.{total};

@@ -1,4 +1,5 @@
 // Part 1. A distance that is worked out only as far as is needed: where a quarter of the samples alone are too far, the others are not read.
+#![tactic(auto)]
 
 ghost use Rattle.std.specs.Prelude.{◌≡◌, ◌≤◌, length};
 ghost use Rattle.definition.specs.Metric.{metric, from_query};

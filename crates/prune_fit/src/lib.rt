@@ -1,4 +1,6 @@
 // Part 6, the last step of the merge: the ids of a node become its row.
+#![tactic(auto)]
+
 ghost use Rattle.std.specs.Prelude.{◌≡◌, ℕ, ◌+◌, ◌*◌, ◌≤◌, ◌<◌, length, get_or};
 ghost use Rattle.definition.specs.Metric.{between};
 ghost use Rattle.metric.specs.Exact.{VectorIn, Distances};

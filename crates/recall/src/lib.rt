@@ -1,6 +1,7 @@
 // 1/13. Recall in plain figures: a search and an exhaustive search of each query, and how many of the true nearest the searches brought. The marks are cleared
 // once for all queries. A search leaves none above its epoch, so that they serve once more: the nearest are marked with the next epoch, and of the search's
 // answers those are counted whose mark it is. So no list is held against another, and nothing here knows in what order answers stand.
+#![tactic(auto)]
 
 ghost use Rattle.std.specs.Prelude.{◌≡◌, [], ◌+◌, ◌≤◌, ◌<◌, eqb, length, take};
 ghost use Rattle.definition.specs.Outcome.{query_count, asked_each, report_done, ReportMeets};

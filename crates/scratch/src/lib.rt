@@ -1,4 +1,6 @@
 // The two lent slices of scratch: where everything lies in them (specs/Layout says what lies where), and the room left zero when a call is done.
+#![tactic(auto)]
+
 ghost use Rattle.std.specs.Prelude.{◌≡◌, ◌+◌, ◌*◌, ◌≤◌, ◌<◌, length, replicate};
 ghost use Rattle.std.specs.Float.Ieee.{of_bits};
 ghost use Rattle.std.specs.Float.{binary32};

@@ -1,5 +1,6 @@
 // Part 9. Search: the greedy walk with the beam raised to at least 1; answers by distance, then the higher id, cut to k. And lookup, the same walk on a
 // table whose words nobody looks at before.
+#![tactic(auto)]
 
 ghost use Rattle.std.specs.Prelude.{◌≡◌, [], ◌+◌, ◌≤◌, ◌<◌, max, length};
 ghost use Rattle.definition.specs.Outcome.{SearchMeets, cleaned_call, LookupMeets, fit_out};

@@ -1,5 +1,6 @@
 // The answers of a search also as a lent run of records, beside its two outputs.
 // No function over a `&mut [Candidate]` is covered by the borrow checker, so the two here are thin and their proofs walk the code step by step.
+#![tactic(auto)]
 
 ghost use Rattle.std.specs.Prelude.{◌≡◌, ◌≤◌, length};
 ghost use Rattle.definition.specs.Outcome.{RecordsMeets};

@@ -3,6 +3,7 @@
 // how many bytes a call may move, and it is the loop of io::read_full, not its contract, that ends only where the buffer is full, the input ends or a read
 // fails. What can be said is said: of the bytes read, that the buffer cuts no text that is answered; of those handed over, that they are `seek` of the bytes
 // read. That the count which `read_text` gave is the count that is answered, and that it is written, is seen by running it: seek, seek_longest, seek_longer.
+#![tactic(auto)]
 
 ghost use Rattle.std.specs.Prelude.{◌≡◌, ◌≤◌, ◌<◌, length, take};
 ghost use Rattle.definition.specs.Seek.{most_input, seek};

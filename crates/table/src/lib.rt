@@ -1,4 +1,6 @@
 // Tables: the padding word, words that name entries, how wide a row is, and all that writes padding.
+#![tactic(auto)]
+
 ghost use Rattle.std.specs.Prelude.{◌≡◌, ◌+◌, ◌*◌, ◌≤◌, ◌<◌, length, take};
 ghost use Rattle.definition.specs.Slack.{slack};
 ghost use Rattle.definition.specs.Tables.{padded, only_pad};

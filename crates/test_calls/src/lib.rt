@@ -5,6 +5,7 @@
 //   the lengths of the lists: the vectors; the query or second vector; the order, nodes or pivots; the seeds; the table that is read.
 // Kinds 0 to 6 are distance, medoid, search, build, batch, close and open, and print a line: the fields of the answer, and a sum over every word of what was
 // lent, the words beyond the lent part included. 7 and 8 are build and batch with every row of their tables printed; k is then the words of a wide row.
+#![tactic(auto)]
 
 use calling::call_case;
 use cases::{case_at, fill_lists};

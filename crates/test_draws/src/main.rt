@@ -1,5 +1,6 @@
 // Runs the samples of 01 on draws and the medoid, and some more, and prints what each call leaves: the number, the draw or the id,
 // the generator's state, and every word of the lent slice (`-` for padding). A slice is lent full of 77, so that a word that no call wrote shows.
+#![tactic(auto)]
 
 use definition::Answer;
 use draws::Stepped;

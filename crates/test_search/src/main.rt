@@ -1,6 +1,7 @@
 // The searches of 01's samples, and lookups of the line with stray words, with what each leaves: its number and count, how many entries it expanded and
 // measured, the answers' ids, whether their distances are the stated ones, the sum of the words in the room and of those beyond it (7 each as lent), and the
 // id after the answers (9 as lent).
+#![tactic(auto)]
 
 use definition::Answer;
 use laws::least;

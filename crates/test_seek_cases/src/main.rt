@@ -1,4 +1,5 @@
 // Answers many texts as `seek` answers one: standard input has them one after the other, each ended by a `/`.
+#![tactic(auto)]
 
 ghost use Rattle.std.specs.Prelude.{◌≤◌, length};
 

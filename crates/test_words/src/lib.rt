@@ -1,4 +1,5 @@
 // Words, for the programs that only test: read from text, copied out as lists, summed so that a slice can be compared, and printed.
+#![tactic(auto)]
 
 ghost use Rattle.std.specs.Prelude.{◌≡◌, length};
 

@@ -1,0 +1,36 @@
+-- `seat_nodes` meets its contract. From the last place to the first: the invariant has the seats of the nodes from p on, so a repeated one keeps its first.
+use mathlib.Core.Path.{refl}
+use Prim.Native.Nat.{◌<◌}
+use native.Mathlib.Omega.{arith}
+use lib.ListN.{length}
+use borrow.Author.Rules.{rules}
+use Rattle.batch_chains.proofs.Chaining.{Seating, seating_start, seating_on, seating_end, seat_fits, seat_node}
+use Rattle.batch_chains.proofs.seat_nodes.Goals as goal
+
+-- the node that is read has a slot
+slot : (c : (goal.After-index_of-node invariant-loop decreases-loop)) → c.index_of-node.result < length c.loop-p.slots
+slot c = seat_fits c.requires.below c.loop-p.invariant (omega arith) c.index_of-node.ensures
+
+pub loop-p-init : goal.loop-p-init
+loop-p-init c = seating_start refl c.requires.by_index
+
+pub overflow_cast-slots : goal.overflow_cast-slots
+overflow_cast-slots c = omega arith
+
+pub offset_bounds-slots-node : goal.offset_bounds-slots-node
+offset_bounds-slots-node c = omega (arith, slot c)
+
+pub bounds-slots-node : goal.bounds-slots-node
+bounds-slots-node c = slot c
+
+pub loop-p-smaller : goal.loop-p-smaller
+loop-p-smaller c = omega arith
+
+pub loop-p-preserved : goal.loop-p-preserved
+loop-p-preserved c =
+    let s = c.loop-p.invariant in
+    let is = c.index_of-node.ensures in
+    seating_on _ s (omega arith) is (seat_node c.requires.below s (omega arith) is)
+
+pub returns : goal.returns
+returns c = seating_end c.loop-p.invariant (λ h. omega arith)

@@ -1,0 +1,24 @@
+-- `fresh_rows` meets its contract. The invariant: the first p rows are the definition's, and the scratch is ready for the next.
+use mathlib.Core.Path.{◌≡◌}
+use Prim.Native.Nat.{◌+◌, ◌-◌, ◌*◌, ◌≤◌, ◌<◌}
+use native.Mathlib.Nat.{zero-mul}
+use native.Mathlib.Omega.{arith}
+use lib.ListN.{length}
+use borrow.Author.Rules.{rules}
+use Rattle.scratch.specs.Lent.{lent}
+use Rattle.given.specs.Given.{given}
+use Rattle.given.specs.Listing.{listing}
+use Rattle.batch_fresh.specs.Made.{Between, RowsMade}
+use Rattle.batch_fresh.proofs.Listing.{rows_none, rows_more, rows_all, insertable, epoch_room, epoch_more, epoch_all}
+use Rattle.laws.specs.Tables.{row_fits}
+use Rattle.batch_fresh.proofs.fresh_rows.Given as goal
+
+abbrev pub invariant-loop-p : goal.invariant-loop-p
+invariant-loop-p l =
+    (l.p ≤ length l.nodes)
+    × (l.last ≡ l.epoch + (l.p + l.p * l.g.params.extra))
+    × Between (given l.g l.vectors) l.last l.p l.words
+    × RowsMade (given l.g l.vectors) l.wide (listing l.start l.nodes l.seeds) (lent l.initial.words l.initial.floats) (lent l.words l.floats) l.p
+
+abbrev pub decreases-loop-p : goal.decreases-loop-p
+decreases-loop-p l = length l.nodes - l.p

@@ -1,0 +1,69 @@
+-- `node_pool` meets its contract. No stamp is the node's yet, so the pool begins empty; the part lent as the query is the node's vector.
+use mathlib.Core.Path.{refl, subst}
+use Prim.Native.Nat.{ℕ, ◌+◌, ◌*◌, ◌≤◌}
+use native.Mathlib.Omega.{arith}
+use mathlib.Core.List.{List}
+use lib.ListN.{length}
+use borrow.Author.Rules.{rules}
+use Rattle.definition.specs.Metric.{from_query}
+use Rattle.metric.specs.Laws.{vector_in, lent_vector, lent_length}
+use Rattle.given.specs.Given.{given, degree-slack}
+use Rattle.batch_pool.specs.Regions.{stage, Grown, pooled_ids}
+use Rattle.batch_fresh.specs.Made.{plan_of}
+use Rattle.batch_fresh.proofs.Making.{holding_blank}
+use Rattle.laws.specs.Tables.{row_fits}
+use Rattle.batch_fresh.proofs.node_pool.Goals as goal
+
+-- the node's vector lies in the vectors
+fits : (c : goal.Start) → c.args.node * c.args.g.dim + c.args.g.dim ≤ length c.args.vectors.now
+fits c =
+    let a = c.args in
+    omega (arith, row_fits a.node a.g.n a.g.dim c.requires.insertable.node_in, c.requires.walk_limits.limits.vectors_are)
+
+pub overflow_mul-at : goal.overflow_mul-at
+overflow_mul-at c = omega (arith, fits c, c.well-formed.1.0)
+
+pub overflow_add-end : goal.overflow_add-end
+overflow_add-end c = omega (arith, fits c, c.well-formed.1.0)
+
+pub slice_bounds-collect_pool-end : goal.slice_bounds-collect_pool-end
+slice_bounds-collect_pool-end c = fits c
+
+pub collect_pool-requires : goal.collect_pool-requires
+collect_pool-requires c =
+    let a = c.args in
+    let limits = c.requires.walk_limits.limits in
+    let i = c.requires.insertable in
+    let v = vector_in a.g.dim a.vectors.now a.g.n a.node limits.vectors_are i.node_in in record {
+      walkable = record {
+        ground =
+            record {
+              measures = record { vectors_are = limits.vectors_are; query_is = lent_length a.g.dim a.vectors.now a.node v; few = limits.dim_few };
+              size = c.requires.wide.size;
+              narrow = omega (arith, (degree-slack a.g.params.degree a.g.slack limits.width_is limits.degree_few).1);
+            };
+        keeps = refl;
+        rows = c.requires.wide.words;
+      };
+      seeds_bound = (c.requires.seeds_bound, holding_blank c.requires.between);
+      node_lt_n = (i.node_in, i.start_in, i.seeds_in);
+    }
+
+pub returns : goal.returns
+returns c =
+    let k = c.collect_pool in
+    let a = c.args in
+    let plan = plan_of (given a.g a.vectors.now) in
+    let from : List ℕ → ℕ → ℕ = from_query a.g.dim a.vectors.now in record {
+      node_pool = record {
+        grown =
+            subst
+            (λ (v : List ℕ). Grown plan k.result.epoch (stage a.words.now (a.p + 1) 0) (stage k.new.words (a.p + 1) k.result.len)
+            (pooled_ids plan (from v) a.wide.now a.node a.start a.seeds.now) (from v))
+            (lent_vector a.g.dim a.vectors.now a.node) k.ensures.grown;
+      };
+      epoch_value = k.ensures.epoch_value;
+    }
+
+pub shape_of-words : goal.shape_of-words
+shape_of-words c = (returns c).0.grown.kept.size

@@ -1,0 +1,18 @@
+-- `merge_rows` meets its contract. The invariant: the rows below i are the merged ones, the others are as they were.
+use mathlib.Core.Path.{◌≡◌, refl, sym, ap, ◌∙◌}
+use mathlib.Core.Logic.{⊎_elim}
+use Prim.Native.Nat.{◌-◌}
+use native.Mathlib.Omega.{arith}
+use lib.ListN.{length}
+use borrow.Author.Rules.{rules}
+use Rattle.given.specs.Given.{given}
+use Rattle.given.specs.Fresh.{merging}
+use Rattle.batch_merge.proofs.Turns.{Turned, turn_start, turn_asks, turn_merged, turn_same, all_merged}
+use Rattle.batch_merge.proofs.merge_rows.Given as goal
+
+abbrev pub invariant-loop-i : goal.invariant-loop-i
+invariant-loop-i l =
+    Turned (given l.g l.vectors) (merging l.g.n l.nodes l.words) l.initial.wide l.wide l.i × (length l.factors ≡ length l.initial.factors)
+
+abbrev pub decreases-loop-i : goal.decreases-loop-i
+decreases-loop-i l = l.n - l.i

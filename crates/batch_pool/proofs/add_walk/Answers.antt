@@ -1,0 +1,16 @@
+-- `add_walk`. The walk leaves the pool alone, and the words hold what it visited.
+use mathlib.Core.Path.{refl}
+use Rattle.batch_pool.proofs.Growing.{walked, grown_walk}
+use borrow.Author.Rules.{rules}
+use Rattle.batch_pool.proofs.add_walk.Goals as goal
+
+pub greedy-s-requires : goal.greedy-s-requires
+greedy-s-requires c =
+    let held = c.requires.epoch_bound in record { epoch_bound = (held.0, held.1.room); keys_value = refl; ground = c.requires.walkable.ground; start_lt_n = c.requires.start_lt_n }
+
+pub add_visited-more-requires : goal.add_visited-more-requires
+add_visited-more-requires c =
+    walked c.requires.walkable _ _ c.requires.start_lt_n c.requires.epoch_bound.1 c.greedy-s.ensures
+
+pub returns : goal.returns
+returns c = record { grown = grown_walk c.requires.walkable _ _ c.requires.start_lt_n c.requires.epoch_bound.1 c.greedy-s.ensures c.add_visited-more.ensures; epoch_value = c.greedy-s.ensures.epoch_is }

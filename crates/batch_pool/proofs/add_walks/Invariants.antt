@@ -1,0 +1,20 @@
+-- `add_walks`. The loop's invariant: the walks from the first k seeds have been made.
+use mathlib.Core.List.{map}
+use mathlib.Core.Path.{◌≡◌}
+use Prim.Native.Nat.{◌+◌, ◌-◌, ◌≤◌, ◌<◌}
+use native.Mathlib.Omega.{arith}
+use lib.ListN.{length, take}
+use Rattle.definition.specs.Lists.{joined}
+use Rattle.definition.specs.Metric.{from_query}
+use Rattle.batch_pool.specs.Regions.{stage, Grown, visits}
+use Rattle.batch_pool.proofs.Growing.{grown_none, grown_then, joined-none, joined_next, joined-all}
+use borrow.Author.Rules.{rules}
+use Rattle.batch_pool.proofs.add_walks.Given as goal
+
+abbrev pub invariant-loop-k : goal.invariant-loop-k
+invariant-loop-k l =
+    (l.k ≤ length l.seeds) × (l.s.epoch ≡ l.initial.s.epoch + l.k) × Grown l.p l.s.epoch (stage l.initial.words l.stamp l.initial.s.len) (stage l.words l.stamp l.s.len)
+    (joined (map (visits l.p (from_query l.p.dim l.vectors l.query) l.wide) (take l.k l.seeds))) (from_query l.p.dim l.vectors l.query)
+
+abbrev pub decreases-loop-k : goal.decreases-loop-k
+decreases-loop-k l = length l.seeds - l.k

@@ -1,0 +1,15 @@
+-- `close_rows` meets its contract. The invariant: the rows below i are closed.
+use mathlib.Core.Path.{◌≡◌, refl, ◌∙◌}
+use Prim.Native.Nat.{◌-◌}
+use native.Mathlib.Omega.{arith}
+use lib.ListN.{length}
+use borrow.Author.Rules.{rules}
+use Rattle.given.specs.Given.{given}
+use Rattle.build_rows.proofs.Closing.{Closing, close_start, close_asks, close_more, close_end}
+use Rattle.build_rows.proofs.close_rows.Given as goal
+
+abbrev pub invariant-loop-i : goal.invariant-loop-i
+invariant-loop-i l = Closing (given l.g l.vectors) l.wide l.initial.closed l.closed l.i × (length l.factors ≡ length l.initial.factors)
+
+abbrev pub decreases-loop-i : goal.decreases-loop-i
+decreases-loop-i l = l.n - l.i

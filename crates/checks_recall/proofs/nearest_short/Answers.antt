@@ -1,0 +1,14 @@
+-- `nearest_short` meets its contract.
+use mathlib.Core.Path.{refl}
+use borrow.Author.Tests.{lt-ltb, le-ltb}
+use borrow.Author.Rules.{rules}
+use Rattle.checks_recall.specs.Lengths.{nearest_short}
+use Rattle.checks_recall.proofs.nearest_short.Goals as goal
+
+pub returns-then-ids-most : goal.returns-then-ids-most
+unfolding nearest_short
+returns-then-ids-most c = rw (← c.least-most.ensures, lt-ltb _ _ c.if-ids-most.true) refl
+
+pub returns : goal.returns
+unfolding nearest_short
+returns-then-ids-most c = rw (← c.least-most.ensures, le-ltb _ _ c.if-ids-most.false) refl

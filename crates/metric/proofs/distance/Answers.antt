@@ -1,0 +1,32 @@
+-- `distance`.
+use mathlib.Core.Path.{sym, ap, ◌∙◌}
+use Prim.Native.Nat.{ℕ}
+use Rattle.definition.specs.Metric.{whole}
+use Rattle.definition.specs.Outcome.{answer}
+use Rattle.metric.specs.Laws.{exact_in_float}
+use Rattle.metric.specs.Cases.{distance_none, distance_long, distance_unequal, distance_done}
+use borrow.Author.Rules.{rules}
+use Rattle.metric.proofs.distance.Reads as reads
+use Rattle.metric.proofs.distance.Lts as lts
+use Rattle.answers.proofs.measured.Reads as measured-reads
+use Rattle.answers.proofs.refused.Reads as refused-reads
+use Rattle.metric.proofs.summed.Reads as summed-reads
+use Rattle.metric.proofs.distance.Goals as goal
+
+pub returns-then-dim-eq0 : goal.returns-then-dim-eq0
+returns-then-dim-eq0 c = c.refused.ensures ∙ sym (distance_none _ _ c.if-dim-eq0.true)
+
+pub returns-then-dim-gt256 : goal.returns-then-dim-gt256
+returns-then-dim-gt256 c = c.refused-then-dim-gt256.ensures ∙ sym (distance_long _ _ c.if-dim-gt256.true)
+
+pub returns-then-dim-b : goal.returns-then-dim-b
+returns-then-dim-b c = c.refused-then-dim-b.ensures ∙ sym (distance_unequal _ _ c.if-dim-eq0.false c.if-dim-gt256.false c.if-dim-b.true)
+
+pub int_to_float-summed : goal.int_to_float-summed
+int_to_float-summed c = exact_in_float _ _ c.summed.ensures
+
+pub returns : goal.returns
+unfolding whole
+returns-then-dim-eq0 c =
+    c.measured.ensures ∙ ap (λ (n : ℕ). answer 0 0 0 0 (whole n)) c.summed.ensures.is
+    ∙ sym (distance_done _ _ c.if-dim-eq0.false c.if-dim-gt256.false c.if-dim-b.false)

@@ -1,0 +1,14 @@
+-- `metric::eight` meets its contract. The loop's invariant: what is summed is what the samples passed so far add. Assumes nothing.
+use mathlib.Core.Path.{◌≡◌, sym, subst}
+use Prim.Native.Nat.{ℕ, ◌+◌, ◌-◌, ◌≤◌}
+use native.Mathlib.Nat.{add-zero, add_assoc}
+use native.Mathlib.Omega.{arith}
+use borrow.Author.Rules.{rules}
+use Rattle.metric.specs.Stretches.{Adds, adds_none, adds_one, adds_join, adds_small}
+use Rattle.metric.proofs.eight.Given as goal
+
+abbrev pub invariant-loop-j : goal.invariant-loop-j
+invariant-loop-j l = (l.j ≤ 8) × Adds l.a l.b l.at (l.at + l.j) l.sum
+
+abbrev pub decreases-loop-j : goal.decreases-loop-j
+decreases-loop-j l = 8 - l.j

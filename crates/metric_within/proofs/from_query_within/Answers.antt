@@ -1,0 +1,9 @@
+-- `from_query_within`.
+use native.Mathlib.Nat.{add-sub_cancel_left}
+use Rattle.definition.specs.Metric.{from_query, vector}
+use borrow.Author.Rules.{rules}
+use Rattle.metric_within.proofs.from_query_within.Goals as goal
+
+pub returns : goal.returns
+unfolding from_query vector
+returns c = rw add-sub_cancel_left at c.summed_within.ensures

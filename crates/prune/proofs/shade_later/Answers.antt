@@ -1,0 +1,11 @@
+-- `shade_later` meets its contract. The part lent as the query is the taken entry's vector.
+use borrow.Author.Rules.{rules}
+use Rattle.metric.specs.Laws.{lent_vector, lent_length}
+use Rattle.prune.proofs.shade_later.Goals as goal
+
+pub shade_rest-requires : goal.shade_rest-requires
+shade_rest-requires c = record { measurable = c.requires.measurable; factors_len = (c.requires.factors_len.0, c.requires.factors_len.1, lent_length _ _ _ c.requires.vector_in) }
+
+pub returns : goal.returns
+returns c =
+    c.shade_rest.ensures.are c.args.taken (lent_vector _ _ _)

@@ -1,0 +1,64 @@
+-- `take_rounds` meets its contract. The ids taken so far, and what the rest of this round and the rounds after it take, make up the result.
+use mathlib.Core.Path.{sym, ◌∙◌, subst}
+use mathlib.Core.Logic.{⊎_elim}
+use Prim.Native.Nat.{◌-◌, ◌<◌}
+use native.Mathlib.Omega.{arith}
+use lib.ListN.{length, length-set}
+use Rattle.laws.specs.All.{all_at}
+use Rattle.metric.specs.Exact.{VectorIn}
+use Rattle.prune.specs.Says.{rounds_of}
+use Rattle.definition.specs.Floats.{largest}
+use Rattle.prune.proofs.Steps.{from_round, Walk, Going, walk_same, going_first, walk_skip, walk_take, walk_first, full, last_round, reached, again}
+use borrow.Author.Rules.{rules}
+use borrow.Author.Tests.{not-true, not-false}
+use Rattle.prune.proofs.take_rounds.Goals as goal
+
+pub rounds-init : goal.rounds-init
+rounds-init c =
+    going_first c.args.alpha c.args.factors.now c.args.row.now c.target_of-target.ensures c.requires.factors_len.0
+
+pub loop-i-init : goal.loop-i-init
+loop-i-init c = walk_first c.rounds.invariant
+
+pub shade_later-requires : goal.shade_later-requires
+shade_later-requires c =
+    let l = c.loop-i in
+    let In = VectorIn c.args.dim c.args.vectors.now in record { measurable = c.requires.measurable; factors_len = (length-set l.factors l.i _ ∙ l.invariant.nf, omega arith); vector_in = subst In (sym c.index_of-taken.ensures) (all_at In 0 c.args.ids.now c.requires.measurable.rows l.i (omega arith)) }
+
+pub loop-i-smaller : goal.loop-i-smaller
+loop-i-smaller c = omega arith
+
+pub loop-i-preserved : goal.loop-i-preserved
+unfolding largest
+loop-i-preserved c =
+    let l = c.loop-i in
+    let same = c.requires.measurable.same in
+    let h : l.i < length c.args.ids.now = omega arith in
+    let room : l.count < c.args.degree = omega arith in
+    let wide = c.rounds.invariant.nr in
+    ⊎_elim
+    (λ w. walk_same w.7 w.8 w.9
+    (walk_take same l.invariant h room (not-true _ w.0.taken) (omega (arith, c.requires.factors_len.1, wide))
+    (w.4.kept.1.1.1.1.0 ∙ length-set l.factors l.i largest) (rw w.2.ensures at w.4.ensures)))
+    (λ w. walk_same w.1 w.2 w.3 (walk_skip same l.invariant h room (not-false _ w.0.left)))
+    c.if-not-current-factors.branch
+
+pub rounds-smaller : goal.rounds-smaller
+rounds-smaller c = omega arith
+
+pub rounds-preserved : goal.rounds-preserved
+rounds-preserved c =
+    let g = c.rounds in
+    rw c.next_alpha-current.ensures (again g.invariant c.requires.measurable.same c.loop-i.invariant (omega arith) (omega arith) c.if-current-target.true g.invariant.nr)
+
+pub returns-then-degree-count : goal.returns-then-degree-count
+returns-then-degree-count c =
+    full c.rounds.invariant c.requires.measurable.same c.loop-i.invariant c.if-degree-count.true
+
+pub returns-then-round-ge9 : goal.returns-then-round-ge9
+returns-then-round-ge9 c =
+    last_round c.rounds.invariant c.requires.measurable.same c.loop-i.invariant (omega arith) (omega arith)
+
+pub returns-else-current-target : goal.returns-else-current-target
+returns-else-current-target c =
+    reached c.rounds.invariant c.requires.measurable.same c.loop-i.invariant (omega arith) c.if-current-target.false

@@ -1,0 +1,8 @@
+-- `clear_room`: the two fronts are the room.
+use borrow.Author.Rules.{rules}
+use Rattle.scratch.specs.Clear.{room-clear}
+use Rattle.scratch.proofs.clear_room.Goals as goal
+
+pub returns : goal.returns
+returns c =
+    room-clear _ _ _ _ _ _ _ c.fresh_end-w.ensures c.floats_end-f.ensures c.clear_front.ensures

@@ -1,0 +1,51 @@
+-- `lookup_accepted`. The marks are cleared, so that the walk may be made; what it wrote is wiped.
+use mathlib.Core.Path.{◌∙◌}
+use Rattle.definition.specs.Refusals.{SearchCall}
+use Rattle.definition.specs.Outcome.{cleaned_call}
+use Rattle.checks_number.specs.SearchNumber.{call_of}
+use Rattle.search.proofs.Passing.{walk_room, wipe_room, done}
+use borrow.Author.Rules.{rules}
+use Rattle.search.proofs.lookup_accepted.Goals as goal
+
+-- the call, as cleaned
+abbrev asked : goal.Start → SearchCall
+asked s =
+    let a = s.args in
+    cleaned_call (call_of a.n a.dim a.vectors.now a.degree a.beam a.k a.start a.table.now a.query.now
+    a.words.now a.floats.now a.ids.now a.dists.now)
+
+-- back to the entry from the cleared marks, and to these from the walk
+abbrev called : goal.After-first_epoch-epoch → goal.Start
+called c = c
+
+abbrev marked : goal.After-walk_answers-found → goal.After-first_epoch-epoch
+marked c = c
+
+pub first_epoch-epoch-requires : goal.first_epoch-epoch-requires
+unfolding cleaned_call
+first_epoch-epoch-requires c = search rules
+
+pub walk_answers-found-requires : goal.walk_answers-found-requires
+unfolding cleaned_call
+walk_answers-found-requires c =
+    let s = called c in
+    walk_room (asked s) s.pre _ _ c.first_epoch-epoch.ensures
+
+pub wipe-requires : goal.wipe-requires
+unfolding cleaned_call
+wipe-requires c =
+    let m = marked c in
+    let s = called m in
+    wipe_room (asked s) s.pre _ _ m.first_epoch-epoch.ensures _ _ _ c.walk_answers-found.ensures
+
+pub shape_of-words : goal.shape_of-words
+unfolding cleaned_call
+shape_of-words c =
+    c.wipe.auto.words ∙ c.walk_answers-found.ensures.kept.size ∙ (marked c).first-epoch.ensures.kept.size
+
+pub returns : goal.returns
+unfolding cleaned_call
+returns c =
+    let m = marked c in
+    let s = called m in
+    done (asked s) s.pre _ _ m.first_epoch-epoch.ensures _ _ _ c.walk_answers-found.ensures _ c.wipe.ensures

@@ -1,0 +1,13 @@
+-- `is_digit`: the definition's two tests, one after the other.
+use Prim.Native.Nat.{◌-◌}
+use Rattle.definition.specs.Seek.{is_digit}
+use borrow.Author.Tests.{le-leb, lt-leb}
+use Rattle.seek_text.proofs.is_digit.Goals as goal
+
+pub returns-then-b-lt48 : goal.returns-then-b-lt48
+unfolding is_digit
+returns-then-b-lt48 c = rw (lt-leb _ _ c.if-b-lt48.true)
+
+pub returns : goal.returns
+unfolding is_digit
+returns-then-b-lt48 c = rw (le-leb _ _ c.if-b-lt48.false)
