@@ -1,4 +1,5 @@
 // The records that the definition speaks of: what a public call returns, the build parameters, one answer of a search, and the report of recall.
+#![tactic(auto)]
 
 ghost use Rattle.std.specs.Prelude.{◌≡◌};
 ghost use Rattle.definition.specs.Defaults.{defaults};

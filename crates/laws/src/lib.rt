@@ -1,4 +1,5 @@
 // The laws are in specs/. The code here is what several crates call: the lesser of two numbers.
+#![tactic(auto)]
 
 ghost use Rattle.std.specs.Prelude.{◌≡◌, min};
 

@@ -1,1 +1,2 @@
 // No code: what walks by hand share stands in specs/.
+#![tactic(auto)]
