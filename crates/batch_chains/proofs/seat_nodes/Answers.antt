@@ -10,18 +10,12 @@ use Rattle.batch_chains.proofs.seat_nodes.Goals as goal
 pub loop-p-init : goal.loop-p-init
 loop-p-init c = seating_start refl c.requires.by_index
 
-pub overflow_cast-slots : goal.overflow_cast-slots
-overflow_cast-slots c = omega arith
-
 pub offset_bounds-slots-node : goal.offset_bounds-slots-node
 offset_bounds-slots-node c = omega (arith, seat_fits c.requires.below c.loop-p.invariant (omega arith) c.index_of-node.ensures)
 
 -- the node that is read has a slot
 pub bounds-slots-node : goal.bounds-slots-node
 bounds-slots-node c = seat_fits c.requires.below c.loop-p.invariant (omega arith) c.index_of-node.ensures
-
-pub loop-p-smaller : goal.loop-p-smaller
-loop-p-smaller c = omega arith
 
 pub loop-p-preserved : goal.loop-p-preserved
 loop-p-preserved c =
