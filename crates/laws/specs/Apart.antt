@@ -126,14 +126,16 @@ apart_within ys (another {x = x} {xs = xs} n a) f =
     let le = apart_within w.others a (λ z m. w.rest z (f z (there m)) (λ e. n (subst (λ (u : ℕ). Mem u xs) e m))) in
     omega (arith, w.shorter)
 
+-- so of numbers below n there are no more than of 0, 1 .. n - 1
+apart_run : {xs : List ℕ} (n : ℕ) → Apart xs → ((z : ℕ) → Mem z xs → z < n) → length xs ≤ length (run 0 n)
+apart_run n a f = apart_within (run 0 n) a (λ z m. mem-run 0 n z zero-le (omega (arith, f z m)))
+
 -- so there are at most n numbers below n
 pub apart_below : {xs : List ℕ} (n : ℕ) → Apart xs → ((z : ℕ) → Mem z xs → z < n) → length xs ≤ n
-apart_below n a f =
-    let le = apart_within (run 0 n) a (λ z m. mem-run 0 n z zero-le (omega (arith, f z m))) in
-    omega (arith, length_run 0 n)
+apart_below n a f = omega (arith, apart_run n a f, length_run 0 n)
 
 -- and n of them are all
 pub apart_full : {xs : List ℕ} (n : ℕ) → Apart xs → ((z : ℕ) → Mem z xs → z < n) → n ≤ length xs → (i : ℕ) → i < n → Mem i xs
 apart_full {xs} n a f h i l =
     decide (is_in i xs) (is_in-mem i xs)
-    (λ e. let most = apart_below n (another (is_in-none i xs e) a) (cons_elim (λ z. z < n) i xs l f) in absurd (omega arith))
+    (λ e. let most = apart_run n (another (is_in-none i xs e) a) (cons_elim (λ z. z < n) i xs l f) in let is = length_run 0 n in absurd (omega arith))

@@ -4,7 +4,7 @@ use Rattle.std.specs.Prelude.{◌≡◌, refl, Bool, true, false, ℕ, ◌+◌, 
 use Rattle.std.proofs.Common.{sym, ap, ◌∙◌, subst, true≢false, mul-one, mul_comm, mul_assoc, add-mul, mul-pos, zero-lt-suc, zero-mul, lt_irrefl, mul-lt-mul_of_pos_right, lt_of_mul-lt-mul_right, ltb→lt, lt→ltb, eqb→eq}
 use Rattle.std.proofs.Math.Bool.{and-true}
 use Rattle.std.proofs.Math.Nat.{eq_of_mul-eq-mul_right}
-use Rattle.std.specs.Float.{fin, binary32}
+use Rattle.std.specs.Float.{fin, inf, nan, binary32}
 use Rattle.std.specs.Float.Ieee.{up, down, round, of_int, lt, eq, add, div}
 use Rattle.std.specs.Float.Ieee.Fits.{down_pos, eq→eqb}
 use Rattle.std.specs.Float.Ieee.Exact.{HasValue}
@@ -48,6 +48,10 @@ pub lt_values : (x y : Float) (a b : ℕ) → HasValue x false a 1 → HasValue 
 unfolding lt
 lt_values (fin true m e) y a b p q = absurd (true≢false p.0)
 lt_values (fin false m e) (fin true n d) a b p q = absurd (true≢false q.0)
+lt_values nan y a b p q = elim p [ ]
+lt_values (inf _) y a b p q = elim p [ ]
+lt_values (fin false m e) nan a b p q = elim q [ ]
+lt_values (fin false m e) (inf _) a b p q = elim q [ ]
 lt_values (fin false m e) (fin false n d) a b p q =
     rw (over m e d a p.1, other n e d b q.1) (scale_lt a b (down e * down d) (mul-pos (down_pos e) (down_pos d)))
 
@@ -55,6 +59,10 @@ pub eq_values : (x y : Float) (a b : ℕ) → HasValue x false a 1 → HasValue 
 unfolding eq
 eq_values (fin true m e) y a b p q = absurd (true≢false p.0)
 eq_values (fin false m e) (fin true n d) a b p q = absurd (true≢false q.0)
+eq_values nan y a b p q = elim p [ ]
+eq_values (inf _) y a b p q = elim p [ ]
+eq_values (fin false m e) nan a b p q = elim q [ ]
+eq_values (fin false m e) (inf _) a b p q = elim q [ ]
 eq_values (fin false m e) (fin false n d) a b p q =
     rw (over m e d a p.1, other n e d b q.1, and-true) (scale_eq a b (down e * down d) (mul-pos (down_pos e) (down_pos d)))
 
@@ -62,6 +70,10 @@ pub add_values : (x y : Float) (a b : ℕ) → HasValue x false a 1 → HasValue
 unfolding add whole of_int
 add_values (fin true m e) y a b p q = absurd (true≢false p.0)
 add_values (fin false m e) (fin true n d) a b p q = absurd (true≢false q.0)
+add_values nan y a b p q = elim p [ ]
+add_values (inf _) y a b p q = elim p [ ]
+add_values (fin false m e) nan a b p q = elim q [ ]
+add_values (fin false m e) (inf _) a b p q = elim q [ ]
 add_values (fin false m e) (fin false n d) a b p q =
     round_same binary32 false (m * up e * down d + n * up d * down e) (down e * down d) (a + b) 1 (mul-pos (down_pos e) (down_pos d)) (zero-lt-suc 0)
     (rw (over m e d a p.1, other n e d b q.1, mul-one, add-mul))
@@ -70,6 +82,10 @@ pub div_values : (x y : Float) (a b : ℕ) → HasValue x false a 1 → HasValue
 unfolding div
 div_values (fin true m e) y a b p q h = absurd (true≢false p.0)
 div_values (fin false m e) (fin true n d) a b p q h = absurd (true≢false q.0)
+div_values nan y a b p q h = elim p [ ]
+div_values (inf _) y a b p q h = elim p [ ]
+div_values (fin false m e) nan a b p q h = elim q [ ]
+div_values (fin false m e) (inf _) a b p q h = elim q [ ]
 div_values (fin false m e) (fin false n d) a b p q h =
     rw (nonzero n d b q.1 h)
     (round_same binary32 false (m * up e * down d) (n * up d * down e) a b

@@ -4,7 +4,7 @@ use Rattle.std.proofs.Common.{sym, ap, ◌∙◌, subst, le_refl, lt_of_le_of_lt
 use Rattle.std.proofs.Math.Bool.{false}
 use Rattle.std.proofs.Math.Decide.{dec_le}
 use Rattle.std.proofs.Math.Dec.{le→leb}
-use Rattle.std.specs.Float.{fin}
+use Rattle.std.specs.Float.{fin, inf, nan}
 use Rattle.std.specs.Float.Ieee.{binary32, up, down, of_int, of_bits, fits, in_float, in_unsigned, to_unsigned}
 use Rattle.std.specs.Float.Ieee.Fits.{of_int-fits, down_pos, and_l, and_r}
 use Rattle.std.specs.Float.Ieee.Exact.{HasValue, round_exact}
@@ -96,6 +96,8 @@ held (fin s m e) n f v = elim (dec_le n limit) [
   | yes h ↦ value n h
   | no g ↦ let l : n ≤ limit → ⊥ = g in beyond s m e n f v.1 (omega arith)
 ]
+held nan n f v = elim v [ ]
+held (inf _) n f v = elim v [ ]
 
 pub unique : (x : Float) (n : ℕ) → T (fits binary32 x) → HasValue x false n 1 → x ≡ whole n
 unfolding whole
