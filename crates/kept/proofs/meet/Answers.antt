@@ -1,13 +1,10 @@
 -- `meet`. The loop's invariant: the first j were met.
 use mathlib.Core.Path.{sym, ◌∙◌}
-use Prim.Native.Nat.{ℕ, ◌-◌, ◌<◌}
+use Prim.Native.Nat.{ℕ, ◌<◌}
 use native.Mathlib.Omega.{arith}
-use borrow.Author.Rules.{rules}
-use lib.ListN.{length}
 use Rattle.laws.specs.All.{all_at}
-use Rattle.kept.specs.Says.{standing}
 use Rattle.kept.specs.Laws.{works-length}
-use Rattle.kept.proofs.Meeting.{MetTo, met_none, met_more, met_all}
+use Rattle.kept.proofs.Meeting.{met_none, met_more, met_all}
 use Rattle.kept.proofs.meet.Goals as goal
 
 pub loop-j-init : goal.loop-j-init
