@@ -11,7 +11,11 @@ pub loop-j-init : goal.loop-j-init
 loop-j-init c = met_none _ _ _ _ c.requires.ids_len c.requires.working
 
 pub admit-s-requires : goal.admit-s-requires
-admit-s-requires c = record { working = c.loop-j.invariant.working; id_bound = all_at (λ (i : ℕ). i < 65536) 0 c.args.ids.now c.requires.all c.loop-j.j c.loop-j-test.true }
+admit-s-requires c =
+    record {
+      working = c.loop-j.invariant.working;
+      id_bound = all_at (λ (i : ℕ). i < 65536) 0 c.args.ids.now c.requires.all c.loop-j.j c.loop-j-test.true;
+    }
 
 pub loop-j-smaller : goal.loop-j-smaller
 loop-j-smaller c = omega arith
