@@ -56,7 +56,7 @@ clear_room-requires c =
     batch_room (call (called taken)) (accepted taken) c.slack-slack.ensures c.first_epoch-epoch.ensures c.run_batch.ensures
 
 pub returns : goal.returns
-returns-then-number-ne0 c =
+returns c =
     let taken = passed c in
     batch-done (call (called taken)) (accepted taken) c.slack-slack.ensures c.first_epoch-epoch.ensures c.run_batch.ensures
     c.done.ensures c.clear_room.ensures

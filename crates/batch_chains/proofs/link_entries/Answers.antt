@@ -11,9 +11,6 @@ loop-e-init c = linking_start c.requires.laid c.requires.by_index
 pub link_entry-requires : goal.link_entry-requires
 link_entry-requires c = requires_one c.requires.laid c.loop-e.invariant (omega arith)
 
-pub loop-e-smaller : goal.loop-e-smaller
-loop-e-smaller c = omega arith
-
 pub loop-e-preserved : goal.loop-e-preserved
 loop-e-preserved c =
     linking_on c.requires.laid c.loop-e.invariant (omega arith) c.link_entry.ensures

@@ -12,6 +12,6 @@ pub bounds-words-head-2 : goal.bounds-words-head-2
 bounds-words-head-2 c = simp length-set (omega arith)
 
 pub returns : goal.returns
-returns-then-n-target c =
+returns c =
     one_linked _ _ _ c.fresh_at.ensures c.index_of-target.ensures
     c.links_at.ensures c.heads_at.ensures (omega arith)

@@ -7,24 +7,15 @@ use borrow.Author.Rules.{rules}
 use Rattle.batch_chains.proofs.Chaining.{Seating, seating_start, seating_on, seating_end, seat_fits, seat_node}
 use Rattle.batch_chains.proofs.seat_nodes.Goals as goal
 
--- the node that is read has a slot
-slot : (c : (goal.After-index_of-node invariant-loop decreases-loop)) → c.index_of-node.result < length c.loop-p.slots
-slot c = seat_fits c.requires.below c.loop-p.invariant (omega arith) c.index_of-node.ensures
-
 pub loop-p-init : goal.loop-p-init
 loop-p-init c = seating_start refl c.requires.by_index
 
-pub overflow_cast-slots : goal.overflow_cast-slots
-overflow_cast-slots c = omega arith
-
 pub offset_bounds-slots-node : goal.offset_bounds-slots-node
-offset_bounds-slots-node c = omega (arith, slot c)
+offset_bounds-slots-node c = omega (arith, seat_fits c.requires.below c.loop-p.invariant (omega arith) c.index_of-node.ensures)
 
+-- the node that is read has a slot
 pub bounds-slots-node : goal.bounds-slots-node
-bounds-slots-node c = slot c
-
-pub loop-p-smaller : goal.loop-p-smaller
-loop-p-smaller c = omega arith
+bounds-slots-node c = seat_fits c.requires.below c.loop-p.invariant (omega arith) c.index_of-node.ensures
 
 pub loop-p-preserved : goal.loop-p-preserved
 loop-p-preserved c =

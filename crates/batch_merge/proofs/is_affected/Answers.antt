@@ -8,5 +8,5 @@ returns-then-words-seat-ne0 c =
     by_seat c.requires.gatherable c.requires.i_lt_n c.seats_at.ensures c.if-words-seat-ne0.true
 
 pub returns : goal.returns
-returns-then-words-seat-ne0 c =
+returns c =
     by_head c.requires.gatherable c.requires.i_lt_n c.seats_at.ensures c.heads_at.ensures c.if-words-seat-ne0.false

@@ -70,7 +70,7 @@ clear_room-requires c =
     rows.new.1.1.1.1.0 rows.auto.1.1.1.1.0
 
 pub returns : goal.returns
-returns-then-number-ne0 c =
+returns c =
     let rows = c.close_rows in
     build_done_lem (asked c) (accepted c) c.slack-slack.ensures c.open_rows.ensures c.run_batches.ensures
     rows.new.1.1.1.1.0 rows.auto.1.1.1.1.0 c.done.ensures rows.ensures c.clear_room.ensures

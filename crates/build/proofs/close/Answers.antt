@@ -50,7 +50,7 @@ clear_room-requires c =
     (r.0, r.1, omega (arith, r.2))
 
 pub returns : goal.returns
-returns-then-number-ne0 c =
+returns c =
     let rows = c.close_rows in
     close_done_lem (call (called c)) (accepted c) rows.new.1.1.1.1.0 rows.auto.1.1.1.1.0
     c.done.ensures rows.ensures c.clear_room.ensures

@@ -31,5 +31,5 @@ open_rows-requires c =
     open_ready (call (called c)) (accepted c) c.slack-slack.ensures
 
 pub returns : goal.returns
-returns-then-number-ne0 c =
+returns c =
     open_done_lem (call (called c)) (accepted c) c.done.ensures c.open_rows.ensures

@@ -19,9 +19,6 @@ pub close_row-requires : goal.close_row-requires
 close_row-requires c =
     close_asks _ (called c).requires c.loop-i.invariant.0 (omega (arith, c.loop-i-test.true)) c.loop-i.invariant.1
 
-pub loop-i-smaller : goal.loop-i-smaller
-loop-i-smaller c = omega arith
-
 pub loop-i-preserved : goal.loop-i-preserved
 loop-i-preserved c =
     let further = c.loop-i-test.true in

@@ -34,9 +34,6 @@ pub put_row-requires : goal.put_row-requires
 put_row-requires c =
     put_asks _ (called c).requires c.loop-i.invariant (omega (arith, c.loop-i-test.true))
 
-pub loop-i-smaller : goal.loop-i-smaller
-loop-i-smaller c = omega arith
-
 pub loop-i-preserved : goal.loop-i-preserved
 loop-i-preserved c =
     let put = c.put_row in

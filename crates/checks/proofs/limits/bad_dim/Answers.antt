@@ -9,4 +9,4 @@ returns-then-dim-eq0 c = rw (eq-eqb _ _ c.if-dim-eq0.true) refl
 
 pub returns : goal.returns
 unfolding bad_dim
-returns-then-dim-eq0 c = rw (ne_eqb _ _ c.if-dim-eq0.false) refl
+returns c = rw (ne_eqb _ _ c.if-dim-eq0.false) refl

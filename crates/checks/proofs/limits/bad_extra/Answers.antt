@@ -9,4 +9,4 @@ returns-then-extra-gt16 c = rw (lt-ltb _ _ c.if-extra-gt16.true) refl
 
 pub returns : goal.returns
 unfolding bad_extra
-returns-then-extra-gt16 c = rw (le-ltb _ _ c.if-extra-gt16.false) refl
+returns c = rw (le-ltb _ _ c.if-extra-gt16.false) refl

@@ -14,4 +14,4 @@ overflow_mul-all c =
 
 pub returns : goal.returns
 unfolding bad_vectors
-returns-then-bad_count c = rw (sym c.bad_count.ensures ∙ c.if-bad_count.false) refl
+returns c = rw (sym c.bad_count.ensures ∙ c.if-bad_count.false) refl

@@ -10,4 +10,4 @@ returns-then-words-w c = rw (lt-ltb _ _ c.if-words-w.true) refl
 
 pub returns : goal.returns
 unfolding build_short build_words build_floats
-returns-then-words-w c = rw (le-ltb _ _ c.if-words-w.false) refl
+returns c = rw (le-ltb _ _ c.if-words-w.false) refl

@@ -17,4 +17,4 @@ returns-then-k-beam c = omega arith
 
 pub returns : goal.returns
 unfolding most_answers
-returns-then-k-eq0 c = omega arith
+returns c = omega arith

@@ -30,7 +30,7 @@ returns-then-dists-most c =
 
 pub returns : goal.returns
 unfolding search_short_by search_words search_floats
-returns-then-words-w c =
+returns c =
     rw (
       le-ltb _ _ c.if-words-w.false,
       le-ltb _ _ c.if-floats-lt512.false,

@@ -30,7 +30,7 @@ bad_groups-requires c = let a = c.args in
     right_many (length a.seeds.now) a.extra a.count c.if-all-extra-ne0.false c.if-all-extra.false
 
 pub returns : goal.returns
-returns-then-bad_extra c = let a = c.args in
+returns c = let a = c.args in
     c.bad_groups.ensures ∙ seeds_right a.n a.extra a.start a.count a.seeds.now
     (sym c.bad_extra.ensures ∙ c.if-bad_extra.false)
     (right_many (length a.seeds.now) a.extra a.count c.if-all-extra-ne0.false c.if-all-extra.false)

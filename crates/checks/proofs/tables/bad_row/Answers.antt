@@ -8,9 +8,9 @@ pub returns-then-not-only_padding : goal.returns-then-not-only_padding
 returns-then-not-only_padding c =
     let k = c.count_entries-count in let a = c.args in
     row_bad_rest a.n a.own a.words.now c.requires.nodes k.result k.ensures.0 k.ensures.1
-    (sym c.only_padding.ensures ∙ not-true _ c.if-not-only_padding.true)
+    (sym c.only_padding.ensures ∙ c.if-not-only_padding.true)
 
 pub returns : goal.returns
-returns-then-not-only_padding c = let k = c.count_entries-count in let a = c.args in
+returns c = let k = c.count_entries-count in let a = c.args in
     row_end a.n a.own a.words.now c.requires.nodes k.result k.ensures.0 k.ensures.1
-    (sym c.only_padding.ensures ∙ not-false _ c.if-not-only_padding.false) _ c.row_repeats.ensures
+    (sym c.only_padding.ensures ∙ c.if-not-only_padding.false) _ c.row_repeats.ensures

@@ -7,4 +7,4 @@ pub returns-then-bad_length : goal.returns-then-bad_length
 returns-then-bad_length c = sym (searched-length _ _ _ (sym c.bad_length.ensures ∙ c.if-bad_length.true))
 
 pub returns : goal.returns
-returns-then-bad_length c = c.has_foreign.ensures ∙ sym (searched_rule _ _ _ (sym c.bad_length.ensures ∙ c.if-bad_length.false))
+returns c = c.has_foreign.ensures ∙ sym (searched_rule _ _ _ (sym c.bad_length.ensures ∙ c.if-bad_length.false))

@@ -12,4 +12,4 @@ bad_rows-requires c =
     (c.requires.0, c.requires.1, length_right _ _ _ (sym c.bad_length.ensures ∙ c.if-bad_length.false))
 
 pub returns : goal.returns
-returns-then-bad_length c = c.bad_rows.ensures ∙ table_rule _ _ _ (sym c.bad_length.ensures ∙ c.if-bad_length.false)
+returns c = c.bad_rows.ensures ∙ table_rule _ _ _ (sym c.bad_length.ensures ∙ c.if-bad_length.false)
