@@ -12,7 +12,7 @@ use base.Logic.{SProp, ent, sep, wand, emp, id⊢, via, comm∗, mono_l, mono_r,
 use base.Fml.{Share, Fml, ftrue, fsep, flft}
 use prog.Memory.{Memory}
 use prog.Model.{Model}
-use prog.Routine.{Name, Routine, Env as Routines}
+use prog.Routine.{Callee as Name, Routine, Env as Routines}
 use prog.Wp.{Heap, Env, Calls, Loops, WpFn, Closed}
 use types.Logic.{Logic, sem}
 use contract.Lifetimes.{Lfts, Shares, Within, toks, AllOutlive}
