@@ -4,7 +4,8 @@ use Rattle.recall.proofs.Answering.{walk_room, marks_fit, both_room, recalled}
 use Rattle.recall.proofs.one_query.Goals as goal
 
 pub walk_answers-found-requires : goal.walk_answers-found-requires
-walk_answers-found-requires c = walk_room c.requires.query_accepted c.requires.epoch_bound
+walk_answers-found-requires c =
+    let room = walk_room c.requires.query_accepted c.requires.epoch_bound in record { walkable = room.0; epoch_bound = room.1 }
 
 pub exhaustive_accepted-nearest-requires : goal.exhaustive_accepted-nearest-requires
 exhaustive_accepted-nearest-requires c = c.requires.query_accepted.nearest
@@ -17,7 +18,9 @@ slice_bounds-in_both-end c = marks_fit c.requires.query_accepted c.walk_answers-
 
 pub in_both-hits-requires : goal.in_both-hits-requires
 in_both-hits-requires c =
-    both_room c.requires.query_accepted c.walk_answers-found.ensures c.next_epoch-next.ensures c.exhaustive_accepted-nearest.ensures
+    let room =
+    both_room c.requires.query_accepted c.walk_answers-found.ensures c.next_epoch-next.ensures c.exhaustive_accepted-nearest.ensures in
+    record { unmarked = room.0; places = room.1.0; places_2 = room.1.1 }
 
 pub returns : goal.returns
 returns c =
