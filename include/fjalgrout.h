@@ -1,4 +1,4 @@
-/* Fjalgrout for C: every public call of the proved library, target/staticlib/libfjalgrout.a (made by `rt staticlib fjalgrout`, for x86-64 Linux).
+/* Fjalgrout for C: every public call of the proved library, target/staticlib/libfjalgrout.a (made by `bin/staticlib`, for x86-64 Linux).
  *
  * A slice is an address and a count of its entries. What the caller must ensure, since nothing in C can check it:
  *   - each count is true: that many entries may be read, and, where the address is not const, written;

@@ -1,5 +1,5 @@
 -- The room at the end of a call.
-use Rattle.std.specs.Prelude.{ℕ, ◌+◌, ◌-◌, ◌≤◌, ◌≡◌, List, ◌++◌, Float, length, take, drop, replicate}
+use Rattle.std.specs.Prelude.{ℕ, ◌-◌, ◌≤◌, ◌≡◌, List, ◌++◌, Float, length, take, drop, replicate}
 use Rattle.std.proofs.Common.{arith, ap, ◌∙◌, length-take}
 use borrow.Rule.Slice.PartMut.{put_mid}
 use Rattle.std.specs.Float.Ieee.{of_bits}

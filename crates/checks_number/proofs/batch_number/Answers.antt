@@ -80,4 +80,4 @@ unfolding holds_at number_at
 returns-then-build_short c = batch_numbered (found (clear_4 c) c.build_short.ensures c.if-build_short.true)
 
 pub returns : goal.returns
-returns-then-early-ne0 c = batch_numbered (nothing (clear_5 c))
+returns c = batch_numbered (nothing (clear_5 c))

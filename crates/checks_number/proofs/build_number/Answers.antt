@@ -112,4 +112,4 @@ unfolding holds_at number_at
 returns-then-build_short c = build_numbered (found (clear_6 c) c.build_short.ensures c.if-build_short.true)
 
 pub returns : goal.returns
-returns-then-early-ne0 c = build_numbered (nothing (clear_7 c))
+returns c = build_numbered (nothing (clear_7 c))

@@ -90,4 +90,4 @@ unfolding holds_at number_at
 returns-then-build_short c = close_numbered (found (clear_5 c) c.build_short.ensures c.if-build_short.true)
 
 pub returns : goal.returns
-returns-then-early-ne0 c = close_numbered (nothing (clear_6 c))
+returns c = close_numbered (nothing (clear_6 c))

@@ -35,4 +35,4 @@ unfolding holds_at number_at
 returns-then-bad_vectors c = found (clear_1 c) c.bad_vectors.ensures c.if-bad_vectors.true
 
 pub returns : goal.returns
-returns-then-bad_dim c = nothing (clear_2 c)
+returns c = nothing (clear_2 c)

@@ -46,4 +46,4 @@ unfolding holds_at number_at
 returns-then-bad_searched c = fit_numbered (found (clear_2 c) c.bad_searched.ensures c.if-bad_searched.true)
 
 pub returns : goal.returns
-returns-then-bad_count c = fit_numbered (nothing (clear_3 c))
+returns c = fit_numbered (nothing (clear_3 c))

@@ -35,4 +35,4 @@ unfolding holds_at number_at
 returns-then-query-dim c = found (clear_1 c) refl (ap not (ne_eqb _ _ c.if-query-dim.true))
 
 pub returns : goal.returns
-returns-then-search_short c = nothing (clear_2 c)
+returns c = nothing (clear_2 c)

@@ -54,4 +54,4 @@ unfolding holds_at number_at
 returns-then-bad_start c = found (clear_3 c) c.bad_start.ensures c.if-bad_start.true
 
 pub returns : goal.returns
-returns-then-early-ne0 c = nothing (clear_4 c)
+returns c = nothing (clear_4 c)

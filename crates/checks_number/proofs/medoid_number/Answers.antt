@@ -35,4 +35,4 @@ unfolding holds_at number_at
 returns-then-bad_pivots c = medoid-numbered (found (clear_1 c) c.bad_pivots.ensures c.if-bad_pivots.true)
 
 pub returns : goal.returns
-returns-then-early-ne0 c = medoid-numbered (nothing (clear_2 c))
+returns c = medoid-numbered (nothing (clear_2 c))

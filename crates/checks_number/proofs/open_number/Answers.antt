@@ -62,4 +62,4 @@ unfolding holds_at number_at
 returns-then-bad_wide_length c = open_numbered (found (clear_3 c) c.bad_wide_length.ensures c.if-bad_wide_length.true)
 
 pub returns : goal.returns
-returns-then-bad_count c = open_numbered (nothing (clear_4 c))
+returns c = open_numbered (nothing (clear_4 c))

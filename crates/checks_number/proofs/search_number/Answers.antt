@@ -41,4 +41,4 @@ unfolding holds_at
 lengths_number-requires c = (vectors_good _ _ _ ((clear_2 c).no 1)).1
 
 pub returns : goal.returns
-returns-then-early-ne0 c = search_numbered (rest (clear_2 c) c.lengths_number.ensures)
+returns c = search_numbered (rest (clear_2 c) c.lengths_number.ensures)

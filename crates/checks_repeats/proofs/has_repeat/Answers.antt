@@ -1,10 +1,7 @@
 -- `has_repeat` meets its contract.
 use mathlib.Core.Path.{refl}
-use Prim.Native.Nat.{◌-◌}
 use native.Mathlib.Omega.{arith}
-use lib.ListN.{length}
-use borrow.Author.Rules.{rules}
-use Rattle.checks_repeats.specs.Bits.{Passing, pass-start, pass_again, pass_on, pass_end}
+use Rattle.checks_repeats.specs.Bits.{pass-start, pass_again, pass_on, pass_end}
 use Rattle.checks_repeats.proofs.has_repeat.Goals as goal
 
 pub loop-i-init : goal.loop-i-init
@@ -23,12 +20,9 @@ returns-then-word-place-eq1 c = let o = c.loop-i in
 pub overflow_shl-bits : goal.overflow_shl-bits
 overflow_shl-bits c = omega (arith, c.requires.at c.loop-i.i)
 
-pub loop-i-smaller : goal.loop-i-smaller
-loop-i-smaller c = omega arith
-
 pub loop-i-preserved : goal.loop-i-preserved
 loop-i-preserved c = let o = c.loop-i in
     pass_on c.args.ids.now o.i o.bits o.invariant c.loop-i-test.true _ refl (c.requires.at o.i) c.if-word-place-eq1.false
 
 pub returns : goal.returns
-returns-then-word-place-eq1 c = pass_end _ _ _ c.loop-i.invariant c.loop-i-test.false
+returns c = pass_end _ _ _ c.loop-i.invariant c.loop-i-test.false

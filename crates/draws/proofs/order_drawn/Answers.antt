@@ -29,7 +29,7 @@ shuffle-next-requires c = let some = count_good _ (count c) in search rules
 
 pub returns : goal.returns
 unfolding order_out order_number short
-returns-then-bad_count c =
+returns c =
     let s = c.shuffle-next in
     let room = c.if-out-n.false in
     done-meets _ _ _ _ _ _ _ (past _ _ _ (count c) ∙ past _ _ _ (le-ltb _ _ room))

@@ -28,7 +28,7 @@ overflow_cast-n c = let some = count_good _ (count c) in search rules
 
 pub returns : goal.returns
 unfolding pivots_out pivots_number short
-returns-then-bad_count c =
+returns c =
     let many = c.least-many.ensures in
     done-meets _ _ _ _ _ _ _ (past _ _ _ (count c) ∙ past _ _ _ (ap (ltb _) (sym many) ∙ le-ltb _ _ c.if-out-many.false))
     (pivots_leaves _ _ _ _ _ _ many c.fill_draws-next.ensures) c.filled.ensures

@@ -54,7 +54,7 @@ fill_rows-next-requires c =
 
 pub returns : goal.returns
 unfolding rows_out rows_number
-returns-then-bad_count c =
+returns c =
     let some = count_good _ (count c) in
     let other = c.if-n-eq1.false in
     done-meets _ _ _ _ _ _ _ (past _ _ _ (count c) ∙ past _ _ _ (degree c) ∙ past _ _ _ (size c))

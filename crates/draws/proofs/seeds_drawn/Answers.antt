@@ -50,7 +50,7 @@ fill_seeds-next-requires c = let some = count_good _ (count c) in (omega arith, 
 
 pub returns : goal.returns
 unfolding seeds_out seeds_number short
-returns-then-bad_count c =
+returns c =
     let room = c.if-out-extra.false in
     done-meets _ _ _ _ _ _ _
     (past _ _ _ (count c) ∙ past _ _ _ (begin c) ∙ past _ _ _ (extra c) ∙ past _ _ _ (le-ltb _ _ room))

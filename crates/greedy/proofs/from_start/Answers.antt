@@ -16,6 +16,6 @@ walk-requires c =
     let rooms = c.requires.start_lt_n in record { ready = c.requires.ready; live = c.requires.live; ground = c.requires.ground; fresh_len = (rooms.1, rooms.2) }
 
 pub returns : goal.returns
-returns-then-p-eq0 c =
+returns c =
     let some = c.if-p-eq0.false in
     subst (Ends _ _ _ _ _ _) (sym (from_some _ _ _ _ some)) c.walk.ensures

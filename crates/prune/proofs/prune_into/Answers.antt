@@ -11,4 +11,4 @@ prune_neighbors-requires c =
 pub returns : goal.returns
 returns c =
     let w = c.prune_neighbors in
-    stretched c.args.table.now w.new.1.1.1.1.1.1.0 c.args.place c.args.width w.result _ c.requires.in_bounds.2 w.ensures
+    stretched c.args.table.now w.new.row c.args.place c.args.width w.result _ c.requires.in_bounds.2 w.ensures

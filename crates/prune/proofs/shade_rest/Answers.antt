@@ -1,6 +1,5 @@
 -- `shade_rest` meets its contract. The factors shaded from place j on are, at every turn, what they are to become.
 use mathlib.Core.Path.{sym, subst}
-use mathlib.Core.Logic.{⊎_elim}
 use Prim.Native.Nat.{ℕ, ◌-◌, ◌≤◌, ◌<◌}
 use native.Mathlib.Omega.{arith}
 use lib.ListN.{length}
@@ -11,6 +10,7 @@ use Rattle.laws.specs.All.{all_at}
 use Rattle.whole.specs.Whole.{limit}
 use Rattle.metric.specs.Exact.{VectorIn}
 use Rattle.prune.proofs.shade_rest.Goals as goal
+use Rattle.prune.proofs.shade_rest.Goals.{then-not-target-factor, else-not-target-factor}
 
 pub loop-j-init : goal.loop-j-init
 loop-j-init c = shading_start (omega arith) (omega arith)
@@ -32,10 +32,12 @@ pub loop-j-preserved : goal.loop-j-preserved
 loop-j-preserved c =
     let l = c.loop-j in
     let h : l.j < length c.args.ids.now = omega arith in
-    ⊎_elim
-    (λ w. rw w.6 (shading_raise c.requires.measurable l.invariant h (rw w.2.ensures at w.3.ensures) (not-true _ w.0.taken) w.5.ensures))
-    (λ w. rw w.1 (shading_skip c.requires.measurable l.invariant h (not-false _ w.0.left)))
-    c.if-not-target-factor.branch
+    elim c.if-not-target-factor.branch [
+      | then-not-target-factor w ↦
+          rw w.factors-is
+          (shading_raise c.requires.measurable l.invariant h (rw w.index_of-other.ensures at w.from_query-apart.ensures) w.if-not-target-factor.true w.raised.ensures)
+      | else-not-target-factor w ↦ rw w.factors-is (shading_skip c.requires.measurable l.invariant h w.if-not-target-factor.false)
+    ]
 
 pub returns : goal.returns
 returns c =

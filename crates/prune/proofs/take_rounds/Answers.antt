@@ -1,6 +1,5 @@
 -- `take_rounds` meets its contract. The ids taken so far, and what the rest of this round and the rounds after it take, make up the result.
 use mathlib.Core.Path.{sym, ◌∙◌, subst}
-use mathlib.Core.Logic.{⊎_elim}
 use Prim.Native.Nat.{◌-◌, ◌<◌}
 use native.Mathlib.Omega.{arith}
 use lib.ListN.{length, length-set}
@@ -12,6 +11,7 @@ use Rattle.prune.proofs.Steps.{from_round, Walk, Going, walk_same, going_first, 
 use borrow.Author.Rules.{rules}
 use borrow.Author.Tests.{not-true, not-false}
 use Rattle.prune.proofs.take_rounds.Goals as goal
+use Rattle.prune.proofs.take_rounds.Goals.{then-not-current-factors, else-not-current-factors}
 
 pub rounds-init : goal.rounds-init
 rounds-init c =
@@ -36,12 +36,14 @@ loop-i-preserved c =
     let h : l.i < length c.args.ids.now = omega arith in
     let room : l.count < c.args.degree = omega arith in
     let wide = c.rounds.invariant.nr in
-    ⊎_elim
-    (λ w. walk_same w.7 w.8 w.9
-    (walk_take same l.invariant h room (not-true _ w.0.taken) (omega (arith, c.requires.factors_len.1, wide))
-    (w.4.kept.1.1.1.1.0 ∙ length-set l.factors l.i largest) (rw w.2.ensures at w.4.ensures)))
-    (λ w. walk_same w.1 w.2 w.3 (walk_skip same l.invariant h room (not-false _ w.0.left)))
-    c.if-not-current-factors.branch
+    elim c.if-not-current-factors.branch [
+      | then-not-current-factors w ↦
+          walk_same w.factors-is w.row-is w.count-is
+          (walk_take same l.invariant h room w.if-not-current-factors.true (omega (arith, c.requires.factors_len.1, wide))
+          (w.shade_later.auto.factors ∙ length-set l.factors l.i largest) (rw w.index_of-taken.ensures at w.shade_later.ensures))
+      | else-not-current-factors w ↦
+          walk_same w.factors-is w.row-is w.count-is (walk_skip same l.invariant h room w.if-not-current-factors.false)
+    ]
 
 pub rounds-smaller : goal.rounds-smaller
 rounds-smaller c = omega arith

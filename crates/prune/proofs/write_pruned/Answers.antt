@@ -13,4 +13,4 @@ returns c =
     let a = c.args in
     let zeros = c.clear_floats.ensures ∙ ap (λ (n : ℕ). replicate n nought) c.requires.factors_len.0 in
     written a.dim a.vectors.now a.ids.now a.dists.now a.degree a.alpha _ _ c.requires.measurable.same c.requires.factors_len.1
-    c.take_rounds-count.auto.1.1.1.1.1.0 zeros c.take_rounds-count.ensures c.pad_from.ensures
+    c.take_rounds-count.auto.row zeros c.take_rounds-count.ensures c.pad_from.ensures

@@ -1,10 +1,7 @@
 -- `clear_floats`.
-use Prim.Native.Nat.{◌-◌}
 use native.Mathlib.Omega.{arith}
-use lib.ListN.{length}
 use lib.Ieee.{of_bits, binary32}
-use borrow.Author.Rules.{rules}
-use Rattle.laws.specs.Filled.{Filled, fill_start, fill_more, fill_end}
+use Rattle.laws.specs.Filled.{fill_start, fill_more, fill_end}
 use Rattle.scratch.proofs.clear_floats.Goals as goal
 
 pub loop-i-init : goal.loop-i-init

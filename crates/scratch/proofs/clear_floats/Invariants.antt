@@ -1,10 +1,8 @@
 -- `clear_floats`.
 use Prim.Native.Nat.{◌-◌}
-use native.Mathlib.Omega.{arith}
 use lib.ListN.{length}
 use lib.Ieee.{of_bits, binary32}
-use borrow.Author.Rules.{rules}
-use Rattle.laws.specs.Filled.{Filled, fill_start, fill_more, fill_end}
+use Rattle.laws.specs.Filled.{Filled}
 use Rattle.scratch.proofs.clear_floats.Given as goal
 
 abbrev pub invariant-loop-i : goal.invariant-loop-i

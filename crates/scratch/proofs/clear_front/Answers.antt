@@ -1,5 +1,4 @@
 -- `clear_front`: two fronts cleared.
-use borrow.Author.Rules.{rules}
 use Rattle.scratch.specs.Clear.{front-clear}
 use Rattle.scratch.proofs.clear_front.Goals as goal
 

@@ -1,5 +1,4 @@
 -- `clear_room`: the two fronts are the room.
-use borrow.Author.Rules.{rules}
 use Rattle.scratch.specs.Clear.{room-clear}
 use Rattle.scratch.proofs.clear_room.Goals as goal
 

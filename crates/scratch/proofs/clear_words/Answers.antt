@@ -1,9 +1,6 @@
 -- `clear_words`.
-use Prim.Native.Nat.{◌-◌}
 use native.Mathlib.Omega.{arith}
-use lib.ListN.{length}
-use borrow.Author.Rules.{rules}
-use Rattle.laws.specs.Filled.{Filled, fill_start, fill_more, fill_end}
+use Rattle.laws.specs.Filled.{fill_start, fill_more, fill_end}
 use Rattle.scratch.proofs.clear_words.Goals as goal
 
 pub loop-i-init : goal.loop-i-init

@@ -1,9 +1,7 @@
 -- `clear_words`.
 use Prim.Native.Nat.{◌-◌}
-use native.Mathlib.Omega.{arith}
 use lib.ListN.{length}
-use borrow.Author.Rules.{rules}
-use Rattle.laws.specs.Filled.{Filled, fill_start, fill_more, fill_end}
+use Rattle.laws.specs.Filled.{Filled}
 use Rattle.scratch.proofs.clear_words.Given as goal
 
 abbrev pub invariant-loop-i : goal.invariant-loop-i

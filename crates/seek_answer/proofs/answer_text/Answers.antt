@@ -8,5 +8,5 @@ pub returns-then-text-gt65536 : goal.returns-then-text-gt65536
 returns-then-text-gt65536 c = text_long _ c.if-text-gt65536.true c.put_refused.ensures
 
 pub returns : goal.returns
-returns-then-text-gt65536 c =
+returns c =
     text_read c.if-text-gt65536.false c.read_values-count.ensures c.answer_values.ensures

@@ -28,5 +28,5 @@ search_values-requires c =
     }
 
 pub returns : goal.returns
-returns-then-not-take_search c =
+returns c =
     values_good _ (sym c.take_search.ensures.says ∙ not-false _ c.if-not-take_search.false) c.search_values.ensures

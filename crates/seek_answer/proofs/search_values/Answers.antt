@@ -47,5 +47,5 @@ put_found-requires c =
     let dists = c.search-r.auto.1.1.1.1.1.1.1.1.1.1.1.1.0 in record { n_in_bounds = (omega (arith, few, ids_kept c), omega (arith, few, dists, room.dists_room), omega (arith, few, room.out_room)); wholes = (told c).whole c.if-number-ne0.false }
 
 pub returns : goal.returns
-returns-then-number-ne0 c =
+returns c =
     put_same ((told c).text c.if-number-ne0.false) c.put_found.ensures

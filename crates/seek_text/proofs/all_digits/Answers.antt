@@ -16,12 +16,9 @@ pub returns-then-not-is_digit : goal.returns-then-not-is_digit
 returns-then-not-is_digit c =
     passed_fail c.loop-i.invariant c.loop-i-test.true (sym c.is_digit.ensures ∙ not-true _ c.if-not-is_digit.true)
 
-pub loop-i-smaller : goal.loop-i-smaller
-loop-i-smaller c = omega arith
-
 pub loop-i-preserved : goal.loop-i-preserved
 loop-i-preserved c =
     passed_on c.loop-i.invariant c.loop-i-test.true (sym c.is_digit.ensures ∙ not-false _ c.if-not-is_digit.false)
 
 pub returns : goal.returns
-returns-then-not-is_digit c = passed_end c.loop-i.invariant c.loop-i-test.false
+returns c = passed_end c.loop-i.invariant c.loop-i-test.false

@@ -16,12 +16,9 @@ pub returns-then-not-is_number : goal.returns-then-not-is_number
 returns-then-not-is_number c =
     passed_fail c.loop-i.invariant c.loop-i-test.true (sym c.is_number.ensures ∙ not-true _ c.if-not-is_number.true)
 
-pub loop-i-smaller : goal.loop-i-smaller
-loop-i-smaller c = omega arith
-
 pub loop-i-preserved : goal.loop-i-preserved
 loop-i-preserved c =
     passed_on c.loop-i.invariant c.loop-i-test.true (sym c.is_number.ensures ∙ not-false _ c.if-not-is_number.false)
 
 pub returns : goal.returns
-returns-then-not-is_number c = passed_end c.loop-i.invariant c.loop-i-test.false
+returns c = passed_end c.loop-i.invariant c.loop-i-test.false

@@ -22,9 +22,6 @@ overflow_add-v c =
     let small = decimal_small l.invariant c.requires c.loop-i-test.true in
     omega (arith, small, (digit_at c.args.word.now l.i c.loop-i-test.true c.requires).1)
 
-pub loop-i-smaller : goal.loop-i-smaller
-loop-i-smaller c = omega arith
-
 pub loop-i-preserved : goal.loop-i-preserved
 loop-i-preserved c =
     decimal_on c.loop-i.invariant c.requires c.loop-i-test.true c.digit.ensures

@@ -18,6 +18,6 @@ small_enough-requires c =
     rw (c.the_n.ensures, c.the_dim.ensures, c.the_degree.ensures) h
 
 pub returns : goal.returns
-returns-then-vals-lt6 c =
+returns c =
     limits_last _ c.if-vals-lt6.false (sym c.are_numbers.ensures ∙ not-false _ c.if-not-are_numbers.false)
     c.the_n.ensures c.the_dim.ensures c.the_degree.ensures c.small_enough.ensures

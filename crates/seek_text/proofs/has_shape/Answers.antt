@@ -13,5 +13,5 @@ pub find_places-p-requires : goal.find_places-p-requires
 find_places-p-requires c = limits_of _ (sym c.has_limits.ensures ∙ not-false _ c.if-not-has_limits.false)
 
 pub returns : goal.returns
-returns-then-not-has_limits c =
+returns c =
     shape-count _ (sym c.has_limits.ensures ∙ not-false _ c.if-not-has_limits.false) c.find_places-p.ensures

@@ -8,4 +8,4 @@ pub returns-then-word-ne1 : goal.returns-then-word-ne1
 returns-then-word-ne1 c = dash_none _ c.if-word-ne1.true
 
 pub returns : goal.returns
-returns-then-word-ne1 c = dash_one _ c.if-word-ne1.false
+returns c = dash_one _ c.if-word-ne1.false

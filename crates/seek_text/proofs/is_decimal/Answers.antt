@@ -17,6 +17,6 @@ returns-then-word-gt5 c = rw (lt-ltb 0 (length c.args.word.now) (omega arith), l
 
 pub returns : goal.returns
 unfolding is_decimal
-returns-then-word-eq0 c =
+returns c =
     let some = lt-ltb 0 (length c.args.word.now) (omega arith) in
     rw (some, le-leb _ 5 c.if-word-gt5.false) c.all_digits.ensures

@@ -10,4 +10,4 @@ returns-then-b-lt48 c = rw (lt-leb _ _ c.if-b-lt48.true)
 
 pub returns : goal.returns
 unfolding is_digit
-returns-then-b-lt48 c = rw (le-leb _ _ c.if-b-lt48.false)
+returns c = rw (le-leb _ _ c.if-b-lt48.false)

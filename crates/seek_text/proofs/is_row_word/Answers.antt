@@ -12,4 +12,4 @@ returns-then-is_number c = rw (sym c.is_number.ensures ∙ c.if-is_number.true)
 
 pub returns : goal.returns
 unfolding is_row_word pad
-returns-then-is_number c = rw (sym c.is_number.ensures ∙ c.if-is_number.false)
+returns c = rw (sym c.is_number.ensures ∙ c.if-is_number.false)

@@ -10,4 +10,4 @@ returns-then-b-eq32 c = rw (eq-eqb _ _ c.if-b-eq32.true)
 
 pub returns : goal.returns
 unfolding splits
-returns-then-b-eq32 c = rw (ne_eqb _ _ c.if-b-eq32.false)
+returns c = rw (ne_eqb _ _ c.if-b-eq32.false)

@@ -18,4 +18,4 @@ pub overflow_mul-rows : goal.overflow_mul-rows
 overflow_mul-rows c = omega (arith, product-few c.args.n c.args.degree 100000 100000 (omega arith) (omega arith))
 
 pub returns : goal.returns
-returns-then-dim-gt4096 c = rw (le-leb _ 4096 c.if-dim-gt4096.false, le-leb _ 4096 c.if-vectors-gt4096.false)
+returns c = rw (le-leb _ 4096 c.if-dim-gt4096.false, le-leb _ 4096 c.if-vectors-gt4096.false)

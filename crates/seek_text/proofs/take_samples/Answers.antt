@@ -15,9 +15,6 @@ shape_of-out-then-v-gt255 c = c.loop-i.invariant.size
 pub returns-then-v-gt255 : goal.returns-then-v-gt255
 returns-then-v-gt255 c = taking_fail c.loop-i.invariant c.loop-i-test.true c.if-v-gt255.true
 
-pub loop-i-smaller : goal.loop-i-smaller
-loop-i-smaller c = omega arith
-
 pub loop-i-preserved : goal.loop-i-preserved
 loop-i-preserved c =
     taking_on c.loop-i.invariant c.requires c.loop-i-test.true c.if-v-gt255.false
@@ -26,4 +23,4 @@ pub shape_of-out : goal.shape_of-out
 shape_of-out c = c.loop-i.invariant.size
 
 pub returns : goal.returns
-returns-then-v-gt255 c = taking_end c.loop-i.invariant c.loop-i-test.false
+returns c = taking_end c.loop-i.invariant c.loop-i-test.false

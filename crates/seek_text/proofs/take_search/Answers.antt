@@ -78,6 +78,6 @@ take_samples-requires-2 c =
     simp (length-take, length-drop) (omega (arith, room c))
 
 pub returns : goal.returns
-returns-then-not-has_shape c =
+returns c =
     form_query (shape c) c.find_places-p.ensures c.take_samples.ensures (not-false _ c.if-not-take_samples.false)
     c.are_row_words.ensures (not-false _ c.if-not-are_row_words.false) c.take_samples-2.ensures

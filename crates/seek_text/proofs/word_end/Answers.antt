@@ -14,12 +14,9 @@ pub returns-then-is_space : goal.returns-then-is_space
 returns-then-is_space c =
     growing_stop c.loop-end.invariant c.loop-end-test.true (sym c.is_space.ensures ∙ c.if-is_space.true)
 
-pub loop-end-smaller : goal.loop-end-smaller
-loop-end-smaller c = omega arith
-
 pub loop-end-preserved : goal.loop-end-preserved
 loop-end-preserved c =
     growing_on c.loop-end.invariant c.loop-end-test.true (sym c.is_space.ensures ∙ c.if-is_space.false)
 
 pub returns : goal.returns
-returns-then-is_space c = growing_end c.loop-end.invariant c.loop-end-test.false
+returns c = growing_end c.loop-end.invariant c.loop-end-test.false

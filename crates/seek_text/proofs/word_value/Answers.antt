@@ -19,4 +19,4 @@ returns-then-is_dash c = rw (sym c.is_decimal.ensures ∙ c.if-is_decimal.false,
 
 pub returns : goal.returns
 unfolding value junk
-returns-then-is_decimal c = rw (sym c.is_decimal.ensures ∙ c.if-is_decimal.false, sym c.is_dash.ensures ∙ c.if-is_dash.false)
+returns c = rw (sym c.is_decimal.ensures ∙ c.if-is_decimal.false, sym c.is_dash.ensures ∙ c.if-is_dash.false)

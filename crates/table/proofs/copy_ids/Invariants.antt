@@ -1,12 +1,8 @@
 -- `copy_ids`: the ids of a row to the front.
-use mathlib.Core.Path.{◌≡◌, refl, ap, ◌∙◌}
-use mathlib.Core.Logic.{⊎_elim}
+use mathlib.Core.Path.{◌≡◌}
 use Prim.Native.Nat.{◌-◌}
-use native.Mathlib.Omega.{arith}
-use lib.ListN.{length, length-set}
-use borrow.Author.Rules.{rules}
-use Rattle.definition.specs.Tables.{pad}
-use Rattle.table.proofs.Copying.{Copying, copy_start, copy_id, copy_pad, copy_same, copy_end}
+use lib.ListN.{length}
+use Rattle.table.proofs.Copying.{Copying}
 use Rattle.table.proofs.copy_ids.Given as goal
 
 abbrev pub invariant-loop-i : goal.invariant-loop-i

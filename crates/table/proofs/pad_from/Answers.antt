@@ -1,11 +1,9 @@
 -- `pad_from` meets its contract. The words before place i, with padding for the rest, make up the result at every turn.
-use mathlib.Core.Path.{◌≡◌, refl, sym, ◌∙◌}
-use Prim.Native.Nat.{◌-◌, ◌≤◌}
+use mathlib.Core.Path.{refl, sym, ◌∙◌}
 use native.Mathlib.Omega.{arith}
-use lib.ListN.{length, take, length-set}
-use Rattle.definition.specs.Tables.{pad, padded}
+use lib.ListN.{length-set}
+use Rattle.definition.specs.Tables.{pad}
 use Rattle.table.proofs.Padding.{padded-turn, padded_end}
-use borrow.Author.Rules.{rules}
 use Rattle.table.proofs.pad_from.Goals as goal
 
 pub loop-i-init : goal.loop-i-init

@@ -1,11 +1,8 @@
 -- `pad_from` meets its contract. The words before place i, with padding for the rest, make up the result at every turn.
-use mathlib.Core.Path.{◌≡◌, refl, sym, ◌∙◌}
+use mathlib.Core.Path.{◌≡◌}
 use Prim.Native.Nat.{◌-◌, ◌≤◌}
-use native.Mathlib.Omega.{arith}
-use lib.ListN.{length, take, length-set}
-use Rattle.definition.specs.Tables.{pad, padded}
-use Rattle.table.proofs.Padding.{padded-turn, padded_end}
-use borrow.Author.Rules.{rules}
+use lib.ListN.{length, take}
+use Rattle.definition.specs.Tables.{padded}
 use Rattle.table.proofs.pad_from.Given as goal
 
 abbrev pub invariant-loop-i : goal.invariant-loop-i

@@ -2,7 +2,6 @@
 use Rattle.table.specs.Rows.{stretched}
 use mathlib.Core.Path.{refl}
 use native.Mathlib.Omega.{arith}
-use borrow.Author.Rules.{rules}
 use Rattle.table.proofs.put_row.Goals as goal
 
 pub returns : goal.returns

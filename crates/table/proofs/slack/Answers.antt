@@ -1,6 +1,5 @@
 -- `slack` meets its contract.
 use mathlib.Core.Path.{refl}
-use borrow.Author.Rules.{rules}
 use Rattle.definition.specs.Slack.{slack}
 use Rattle.table.proofs.slack.Goals as goal
 

@@ -1,13 +1,7 @@
 -- `write_padded` meets its contract. The words before place i are the ids before it; then padding from the number of ids on.
-use mathlib.Core.Path.{◌≡◌, refl, ap, ap₂, ◌∙◌}
-use mathlib.Core.List.{List, [], ◌∷◌, ◌++◌}
-use Prim.Native.Nat.{ℕ, ◌+◌, ◌-◌, ◌≤◌, ◌<◌}
-use native.Mathlib.Numerals.{add-one}
-use native.Mathlib.Omega.{arith}
-use lib.ListN.{length, get_or, set, take, length-set}
-use lib.Seq.{take-suc, take-suc-set, take_all}
-use borrow.Author.Rules.{rules}
-use Rattle.definition.specs.Tables.{padded}
+use mathlib.Core.Path.{◌≡◌}
+use Prim.Native.Nat.{◌-◌, ◌≤◌}
+use lib.ListN.{length, take}
 use Rattle.table.proofs.write_padded.Given as goal
 
 abbrev pub invariant-loop-i : goal.invariant-loop-i

@@ -1,5 +1,5 @@
 -- `bad_degree` meets its contract.
-use Rattle.std.proofs.Common.{◌-◌, refl, eq-eqb, ne_eqb}
+use Rattle.std.proofs.Common.{refl, eq-eqb, ne_eqb}
 use Rattle.definition.specs.Refusals.{bad_degree}
 use Rattle.checks.proofs.limits.bad_degree.Goals as goal
 
@@ -9,4 +9,4 @@ returns-then-degree-eq0 c = rw (eq-eqb _ _ c.if-degree-eq0.true) refl
 
 pub returns : goal.returns
 unfolding bad_degree
-returns-then-degree-eq0 c = rw (ne_eqb _ _ c.if-degree-eq0.false) refl
+returns c = rw (ne_eqb _ _ c.if-degree-eq0.false) refl

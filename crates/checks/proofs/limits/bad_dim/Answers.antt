@@ -1,5 +1,5 @@
 -- `bad_dim` meets its contract.
-use Rattle.std.proofs.Common.{◌-◌, refl, eq-eqb, ne_eqb}
+use Rattle.std.proofs.Common.{refl, eq-eqb, ne_eqb}
 use Rattle.definition.specs.Refusals.{bad_dim}
 use Rattle.checks.proofs.limits.bad_dim.Goals as goal
 
@@ -9,4 +9,4 @@ returns-then-dim-eq0 c = rw (eq-eqb _ _ c.if-dim-eq0.true) refl
 
 pub returns : goal.returns
 unfolding bad_dim
-returns-then-dim-eq0 c = rw (ne_eqb _ _ c.if-dim-eq0.false) refl
+returns c = rw (ne_eqb _ _ c.if-dim-eq0.false) refl

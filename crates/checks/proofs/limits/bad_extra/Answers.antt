@@ -1,5 +1,5 @@
 -- `bad_extra` meets its contract.
-use Rattle.std.proofs.Common.{◌-◌, refl, le-ltb, lt-ltb}
+use Rattle.std.proofs.Common.{refl, le-ltb, lt-ltb}
 use Rattle.definition.specs.Refusals.{bad_extra}
 use Rattle.checks.proofs.limits.bad_extra.Goals as goal
 
@@ -9,4 +9,4 @@ returns-then-extra-gt16 c = rw (lt-ltb _ _ c.if-extra-gt16.true) refl
 
 pub returns : goal.returns
 unfolding bad_extra
-returns-then-extra-gt16 c = rw (le-ltb _ _ c.if-extra-gt16.false) refl
+returns c = rw (le-ltb _ _ c.if-extra-gt16.false) refl

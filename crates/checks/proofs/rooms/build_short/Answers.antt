@@ -1,5 +1,5 @@
 -- `build_short` meets its contract.
-use Rattle.std.proofs.Common.{◌-◌, refl, rules, le-ltb, lt-ltb}
+use Rattle.std.proofs.Common.{refl, le-ltb, lt-ltb}
 use Rattle.definition.specs.Refusals.{build_words, build_floats}
 use Rattle.checks.specs.Lengths.{build_short}
 use Rattle.checks.proofs.rooms.build_short.Goals as goal
@@ -10,4 +10,4 @@ returns-then-words-w c = rw (lt-ltb _ _ c.if-words-w.true) refl
 
 pub returns : goal.returns
 unfolding build_short build_words build_floats
-returns-then-words-w c = rw (le-ltb _ _ c.if-words-w.false) refl
+returns c = rw (le-ltb _ _ c.if-words-w.false) refl

@@ -1,5 +1,5 @@
 -- `most_answers` meets its contract.
-use Rattle.std.proofs.Common.{◌-◌, arith}
+use Rattle.std.proofs.Common.{arith}
 use Rattle.definition.specs.Refusals.{most_answers}
 use Rattle.checks.proofs.rooms.most_answers.Goals as goal
 
@@ -17,4 +17,4 @@ returns-then-k-beam c = omega arith
 
 pub returns : goal.returns
 unfolding most_answers
-returns-then-k-eq0 c = omega arith
+returns c = omega arith

@@ -1,5 +1,5 @@
 -- `search_short` meets its contract.
-use Rattle.std.proofs.Common.{◌-◌, refl, rules, le-ltb, lt-ltb}
+use Rattle.std.proofs.Common.{refl, le-ltb, lt-ltb}
 use Rattle.definition.specs.Refusals.{search_words, search_floats}
 use Rattle.checks.specs.Lengths.{search_short_by}
 use Rattle.checks.proofs.rooms.search_short.Goals as goal
@@ -30,7 +30,7 @@ returns-then-dists-most c =
 
 pub returns : goal.returns
 unfolding search_short_by search_words search_floats
-returns-then-words-w c =
+returns c =
     rw (
       le-ltb _ _ c.if-words-w.false,
       le-ltb _ _ c.if-floats-lt512.false,

@@ -1,23 +1,20 @@
 -- `all_below` meets its contract.
-use Rattle.std.proofs.Common.{ℕ, ◌-◌, Bool, ltb, length, sym, subst, ⊎_elim, arith, rules, le-ltb, lt-ltb}
+use Rattle.std.proofs.Common.{ℕ, Bool, ltb, sym, subst, le-ltb, lt-ltb}
 use Rattle.laws.specs.Looked.{Looked, look-start, look_bad, look_good, look_none}
 use Rattle.checks.specs.Below.{all_below}
 use Rattle.checks.proofs.sets.all_below.Goals as goal
+use Rattle.checks.proofs.sets.all_below.Goals.{then-end-ids, else-end-ids}
 
 pub loop-i-init : goal.loop-i-init
 loop-i-init c = look-start _ _
 
-pub loop-i-smaller : goal.loop-i-smaller
-loop-i-smaller c = omega arith
-
 pub loop-i-preserved : goal.loop-i-preserved
-unfolding all_below
 loop-i-preserved c =
     let p : ℕ → Bool = λ u. ltb u c.args.n in let l = c.args.ids.now in let o = c.loop-i in let h = c.loop-i-test.true in
-    ⊎_elim
-    (λ w. subst (Looked _ _ _) (sym w.1) (look_bad p l o.i o.found o.invariant h (le-ltb _ _ w.0.taken)))
-    (λ w. subst (Looked _ _ _) (sym w.1) (look_good p l o.i o.found o.invariant h (lt-ltb _ _ w.0.left)))
-    c.if-end-ids.branch
+    elim c.if-end-ids.branch [
+      | then-end-ids w ↦ subst (Looked _ _ _) (sym w.found-is) (look_bad p l o.i o.found o.invariant h (le-ltb _ _ w.if-end-ids.true))
+      | else-end-ids w ↦ subst (Looked _ _ _) (sym w.found-is) (look_good p l o.i o.found o.invariant h (lt-ltb _ _ w.if-end-ids.false))
+    ]
 
 pub returns : goal.returns
 unfolding all_below

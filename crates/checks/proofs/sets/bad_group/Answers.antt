@@ -1,6 +1,5 @@
 -- `bad_group` meets its contract.
-use Rattle.std.proofs.Common.{◌≡◌, ◌+◌, ◌-◌, ◌≤◌, length, drop, sym, refl, ap, ◌∙◌, arith, rules}
-use Rattle.definition.specs.Refusals.{good_group}
+use Rattle.std.proofs.Common.{◌+◌, sym, refl, ap, ◌∙◌, arith}
 use Rattle.checks.specs.Groups.{seed_far, seed_start, seed_again, seed_good, seeds_end}
 use Rattle.definition.specs.Lists.{is_in}
 use Rattle.checks.specs.Lent.{rest_is}
@@ -8,9 +7,6 @@ use Rattle.checks.proofs.sets.bad_group.Goals as goal
 
 pub loop-i-init : goal.loop-i-init
 loop-i-init c = (omega arith, refl)
-
-pub overflow_cast-s : goal.overflow_cast-s
-overflow_cast-s c = record { fits = omega (arith, (c.shared_slice_known-in-loop-i-1.given c.loop-i.i).fits) }
 
 pub returns-then-n-s : goal.returns-then-n-s
 returns-then-n-s c = let a = c.args in
@@ -27,9 +23,6 @@ returns-then-is_among c = let a = c.args in
     c.loop-i-test.true c.if-n-s.false c.if-s-start.false
     (ap (is_in _) (sym (rest_is (c.loop-i.i + 1) a.group.now (omega arith))) ∙ sym c.is_among.ensures ∙ c.if-is_among.true)
 
-pub loop-i-smaller : goal.loop-i-smaller
-loop-i-smaller c = omega arith
-
 pub loop-i-preserved : goal.loop-i-preserved
 loop-i-preserved c = let a = c.args in (
   omega arith,
@@ -40,4 +33,4 @@ loop-i-preserved c = let a = c.args in (
 )
 
 pub returns : goal.returns
-returns-then-n-s c = seeds_end _ _ _ _ c.loop-i.invariant.1 c.loop-i-test.false
+returns c = seeds_end _ _ _ _ c.loop-i.invariant.1 c.loop-i-test.false

@@ -1,6 +1,6 @@
 -- `bad_groups` meets its contract.
-use Rattle.std.proofs.Common.{◌-◌, arith, rules}
-use Rattle.checks.specs.Groups.{Grouped, groups_start, group_bad, group_good, groups_end}
+use Rattle.std.proofs.Common.{rules}
+use Rattle.checks.specs.Groups.{groups_start, group_bad, group_good, groups_end}
 use Rattle.laws.specs.Tables.{row_fits}
 use Rattle.checks.proofs.sets.bad_groups.Goals as goal
 
@@ -36,13 +36,10 @@ returns-then-bad_group c =
     let a = c.args in let o = c.loop-g in let h = c.loop-g-test.true in
     group_bad a.n a.start a.extra a.count a.seeds.now o.g o.invariant h _ c.bad_group.ensures c.if-bad_group.true
 
-pub loop-g-smaller : goal.loop-g-smaller
-loop-g-smaller c = omega arith
-
 pub loop-g-preserved : goal.loop-g-preserved
 loop-g-preserved c =
     let a = c.args in let o = c.loop-g in let h = c.loop-g-test.true in
     group_good a.n a.start a.extra a.count a.seeds.now o.g o.invariant h _ c.bad_group.ensures c.if-bad_group.false
 
 pub returns : goal.returns
-returns-then-bad_group c = groups_end _ _ _ _ _ _ c.loop-g.invariant c.loop-g-test.false
+returns c = groups_end _ _ _ _ _ _ c.loop-g.invariant c.loop-g-test.false

@@ -1,5 +1,5 @@
 -- `bad_pivots` meets its contract.
-use Rattle.std.proofs.Common.{◌-◌, refl, rules, le-ltb, lt-ltb, eq-eqb, ne_eqb}
+use Rattle.std.proofs.Common.{refl, le-ltb, lt-ltb, eq-eqb, ne_eqb}
 use Rattle.definition.specs.Refusals.{bad_pivots}
 use Rattle.checks.specs.Below.{all_below}
 use Rattle.checks.proofs.sets.bad_pivots.Goals as goal
@@ -14,4 +14,4 @@ returns-then-pivots-gt8 c = rw (ne_eqb _ _ c.if-pivots-eq0.false, lt-ltb _ _ c.i
 
 pub returns : goal.returns
 unfolding bad_pivots all_below
-returns-then-pivots-eq0 c = rw (ne_eqb _ _ c.if-pivots-eq0.false, le-ltb _ _ c.if-pivots-gt8.false, c.all_below.ensures) refl
+returns c = rw (ne_eqb _ _ c.if-pivots-eq0.false, le-ltb _ _ c.if-pivots-gt8.false, c.all_below.ensures) refl

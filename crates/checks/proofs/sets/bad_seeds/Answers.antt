@@ -1,5 +1,5 @@
 -- `bad_seeds` meets its contract.
-use Rattle.std.proofs.Common.{◌-◌, length, sym, ◌∙◌, rules}
+use Rattle.std.proofs.Common.{length, sym, ◌∙◌}
 use Rattle.checks.specs.Groups.{seeds_limit, seeds_none, seeds_wrong, seeds_right, whole-groups, as_many, right_many}
 use Rattle.checks.proofs.sets.bad_seeds.Goals as goal
 
@@ -30,7 +30,7 @@ bad_groups-requires c = let a = c.args in
     right_many (length a.seeds.now) a.extra a.count c.if-all-extra-ne0.false c.if-all-extra.false
 
 pub returns : goal.returns
-returns-then-bad_extra c = let a = c.args in
+returns c = let a = c.args in
     c.bad_groups.ensures ∙ seeds_right a.n a.extra a.start a.count a.seeds.now
     (sym c.bad_extra.ensures ∙ c.if-bad_extra.false)
     (right_many (length a.seeds.now) a.extra a.count c.if-all-extra-ne0.false c.if-all-extra.false)

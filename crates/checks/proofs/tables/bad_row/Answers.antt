@@ -1,6 +1,5 @@
 -- `bad_row` meets its contract.
-use Rattle.std.proofs.Common.{◌-◌, sym, ◌∙◌, rules}
-use borrow.Author.Tests.{not-true, not-false}
+use Rattle.std.proofs.Common.{sym, ◌∙◌}
 use Rattle.checks.specs.Rows.{row_bad_rest, row_end}
 use Rattle.checks.proofs.tables.bad_row.Goals as goal
 
@@ -8,9 +7,9 @@ pub returns-then-not-only_padding : goal.returns-then-not-only_padding
 returns-then-not-only_padding c =
     let k = c.count_entries-count in let a = c.args in
     row_bad_rest a.n a.own a.words.now c.requires.nodes k.result k.ensures.0 k.ensures.1
-    (sym c.only_padding.ensures ∙ not-true _ c.if-not-only_padding.true)
+    (sym c.only_padding.ensures ∙ c.if-not-only_padding.true)
 
 pub returns : goal.returns
-returns-then-not-only_padding c = let k = c.count_entries-count in let a = c.args in
+returns c = let k = c.count_entries-count in let a = c.args in
     row_end a.n a.own a.words.now c.requires.nodes k.result k.ensures.0 k.ensures.1
-    (sym c.only_padding.ensures ∙ not-false _ c.if-not-only_padding.false) _ c.row_repeats.ensures
+    (sym c.only_padding.ensures ∙ c.if-not-only_padding.false) _ c.row_repeats.ensures

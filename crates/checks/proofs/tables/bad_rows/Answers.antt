@@ -1,8 +1,8 @@
 -- `bad_rows` meets its contract.
-use Rattle.std.proofs.Common.{ℕ, ◌-◌, sym, arith, rules}
+use Rattle.std.proofs.Common.{ℕ, sym, rules}
 use lib.ListN.{length-replicate}
 use Rattle.laws.specs.Tables.{row_fits}
-use Rattle.checks.specs.Rows.{Rowed, rows_start, row_ready, rows_bad, rows_more, rows_end}
+use Rattle.checks.specs.Rows.{rows_start, row_ready, rows_bad, rows_more, rows_end}
 use Rattle.checks.proofs.tables.bad_rows.Goals as goal
 
 pub loop-i-init : goal.loop-i-init
@@ -45,13 +45,10 @@ returns-then-bad_row c =
     let a = c.args in let o = c.loop-i in let h = c.loop-i-test.true in
     rows_bad a.n a.width a.table.now o.i o.marks o.invariant h _ c.bad_row.ensures c.if-bad_row.true
 
-pub loop-i-smaller : goal.loop-i-smaller
-loop-i-smaller c = omega arith
-
 pub loop-i-preserved : goal.loop-i-preserved
 loop-i-preserved c =
     let a = c.args in let o = c.loop-i in let h = c.loop-i-test.true in
-    rows_more a.n a.width a.table.now o.i o.marks o.invariant h _ c.bad_row.ensures c.if-bad_row.false _ c.bad_row.auto.1.1.0
+    rows_more a.n a.width a.table.now o.i o.marks o.invariant h _ c.bad_row.ensures c.if-bad_row.false _ c.bad_row.auto.marks
 
 pub returns : goal.returns
-returns-then-bad_row c = rows_end _ _ _ _ _ c.loop-i.invariant c.loop-i-test.false
+returns c = rows_end _ _ _ _ _ c.loop-i.invariant c.loop-i-test.false

@@ -1,5 +1,5 @@
 -- `bad_searched` meets its contract.
-use Rattle.std.proofs.Common.{◌-◌, sym, ◌∙◌, rules}
+use Rattle.std.proofs.Common.{sym, ◌∙◌}
 use Rattle.checks.specs.Searched.{searched-length, searched_rule}
 use Rattle.checks.proofs.tables.bad_searched.Goals as goal
 
@@ -7,4 +7,4 @@ pub returns-then-bad_length : goal.returns-then-bad_length
 returns-then-bad_length c = sym (searched-length _ _ _ (sym c.bad_length.ensures ∙ c.if-bad_length.true))
 
 pub returns : goal.returns
-returns-then-bad_length c = c.has_foreign.ensures ∙ sym (searched_rule _ _ _ (sym c.bad_length.ensures ∙ c.if-bad_length.false))
+returns c = c.has_foreign.ensures ∙ sym (searched_rule _ _ _ (sym c.bad_length.ensures ∙ c.if-bad_length.false))

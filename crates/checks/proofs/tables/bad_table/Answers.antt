@@ -1,5 +1,5 @@
 -- `bad_table` meets its contract.
-use Rattle.std.proofs.Common.{◌-◌, sym, ◌∙◌, rules}
+use Rattle.std.proofs.Common.{sym, ◌∙◌}
 use Rattle.checks.specs.Good.{length_right}
 use Rattle.checks.specs.Rows.{table_length, table_rule}
 use Rattle.checks.proofs.tables.bad_table.Goals as goal
@@ -12,4 +12,4 @@ bad_rows-requires c =
     (c.requires.0, c.requires.1, length_right _ _ _ (sym c.bad_length.ensures ∙ c.if-bad_length.false))
 
 pub returns : goal.returns
-returns-then-bad_length c = c.bad_rows.ensures ∙ table_rule _ _ _ (sym c.bad_length.ensures ∙ c.if-bad_length.false)
+returns c = c.bad_rows.ensures ∙ table_rule _ _ _ (sym c.bad_length.ensures ∙ c.if-bad_length.false)

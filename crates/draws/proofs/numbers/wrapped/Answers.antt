@@ -7,4 +7,4 @@ pub returns-then-x-m : goal.returns-then-x-m
 returns-then-x-m c = sym (mod-eq_of_lt c.if-x-m.true)
 
 pub returns : goal.returns
-returns-then-x-m c = sym (mod-eq-sub-mod c.if-x-m.false ∙ mod-eq_of_lt (omega arith))
+returns c = sym (mod-eq-sub-mod c.if-x-m.false ∙ mod-eq_of_lt (omega arith))

@@ -6,9 +6,6 @@ use Rattle.draws.proofs.order.count_up.Goals as goal
 pub loop-i-init : goal.loop-i-init
 loop-i-init c = (omega arith, place_start _ _ _)
 
-pub loop-i-smaller : goal.loop-i-smaller
-loop-i-smaller c = omega arith
-
 pub loop-i-preserved : goal.loop-i-preserved
 loop-i-preserved c = let l = c.loop-i in (omega arith, place_turn _ _ _ _ _ l.invariant.1 (omega arith) (omega (arith, l.invariant.1.size)))
 

@@ -16,9 +16,6 @@ bounds-out-j-in-loop-i c =
     let l = c.loop-i in
     omega (arith, d.ensures.below (omega arith), length-set l.out l.i (get_or l.out d.result 0))
 
-pub loop-i-smaller : goal.loop-i-smaller
-loop-i-smaller c = omega arith
-
 pub loop-i-preserved : goal.loop-i-preserved
 loop-i-preserved c =
     shuffle_turn _ _ _ _ _ _ _ (omega arith) c.drawn-j.ensures.is

@@ -28,9 +28,6 @@ slice_bounds-write_row-end c = let e = fits c in search rules
 pub write_row-requires : goal.write_row-requires
 write_row-requires c = (omega arith, omega arith, c.loop-i-test.true, c.drawn-r.ensures.below (omega arith))
 
-pub loop-i-smaller : goal.loop-i-smaller
-loop-i-smaller c = omega arith
-
 pub loop-i-preserved : goal.loop-i-preserved
 loop-i-preserved c =
     let l = c.loop-i in (

@@ -8,9 +8,6 @@ use Rattle.draws.proofs.rows.write_ids.Goals as goal
 pub loop-j-init : goal.loop-j-init
 loop-j-init c = let below = c.requires.3 in (omega arith, step-first _ _ below, below, place_start _ _ _)
 
-pub loop-j-smaller : goal.loop-j-smaller
-loop-j-smaller c = omega arith
-
 pub loop-j-preserved : goal.loop-j-preserved
 loop-j-preserved c =
     let l = c.loop-j in

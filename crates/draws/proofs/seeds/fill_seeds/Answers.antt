@@ -15,9 +15,6 @@ first_free-seed-requires c = (omega arith, omega arith, c.drawn-r.ensures.below 
 pub bounds-out-k : goal.bounds-out-k
 bounds-out-k c = omega (arith, c.loop-k.invariant.1.written.size)
 
-pub loop-k-smaller : goal.loop-k-smaller
-loop-k-smaller c = omega arith
-
 pub loop-k-preserved : goal.loop-k-preserved
 loop-k-preserved c =
     let l = c.loop-k in (

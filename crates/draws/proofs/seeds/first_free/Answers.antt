@@ -13,9 +13,6 @@ returns-then-not-is_taken c =
     let l = c.loop-left in
     free_here _ _ _ _ _ l.invariant.0 l.invariant.2 c.loop-left-test.true (sym (not-true _ c.if-not-is_taken.true) ∙ c.is_taken.ensures)
 
-pub loop-left-smaller : goal.loop-left-smaller
-loop-left-smaller c = omega arith
-
 pub loop-left-preserved : goal.loop-left-preserved
 loop-left-preserved c =
     let l = c.loop-left in
@@ -27,4 +24,4 @@ loop-left-preserved c =
     )
 
 pub returns : goal.returns
-returns-then-not-is_taken c = let l = c.loop-left in free_end _ _ _ _ _ l.invariant.0 l.invariant.2 c.loop-left-test.false
+returns c = let l = c.loop-left in free_end _ _ _ _ _ l.invariant.0 l.invariant.2 c.loop-left-test.false

@@ -7,4 +7,4 @@ pub returns-then-x-start : goal.returns-then-x-start
 returns-then-x-start c = taken_start _ _ _ c.if-x-start.true
 
 pub returns : goal.returns
-returns-then-x-start c = c.is_among.ensures ∙ taken_group _ _ _ c.if-x-start.false
+returns c = c.is_among.ensures ∙ taken_group _ _ _ c.if-x-start.false
