@@ -1,12 +1,7 @@
 -- The distances of some entries, one by one: what a loop over them has written so far.
-use mathlib.Core.Path.{◌≡◌, refl, sym, ap, ◌∙◌}
-use mathlib.Core.List.{List, map}
-use Prim.Native.Nat.{ℕ, ◌+◌, ◌≤◌, ◌<◌}
-use native.Mathlib.Numerals.{add-one}
-use native.Mathlib.Omega.{arith}
-use borrow.Author.Count.{below_more}
-use lib.ListN.{length, get_or, take, set, length-set}
-use lib.Seq.{take_all, take-suc, take-suc-set}
+use Rattle.std.proofs.Common.{◌≡◌, refl, sym, ap, ◌∙◌, List, map, ℕ, ◌+◌, ◌≤◌, ◌<◌, add-one, arith, below_more, length, get_or}
+use Rattle.std.proofs.Common.{take, set, length-set}
+use Rattle.std.proofs.Math.Seq.{take_all, take-suc, take-suc-set}
 use Rattle.laws.specs.Mapped.{map_snoc}
 use Rattle.whole.specs.Whole.{farthest}
 use Rattle.metric.specs.Exact.{Exact, Distances}

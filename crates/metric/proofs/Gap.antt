@@ -1,11 +1,6 @@
 -- What two bytes add, by the higher and the lower of them: the definition's `squared`. Assumes nothing.
-use mathlib.Core.Path.{◌≡◌, ap, ◌∙◌}
-use mathlib.Core.Logic.{inl, inr}
-use mathlib.Core.Bool.{cond}
-use Prim.Native.Nat.{ℕ, ◌-◌, ◌*◌, ◌≤◌, ◌<◌, min, max}
-use native.Mathlib.Omega.{arith}
-use borrow.Author.Tests.{eqb-true, eqb-false}
-use lib.Dec.{eqb}
+use Rattle.std.proofs.Common.{◌≡◌, ap, ◌∙◌, inl, inr, cond, ℕ, ◌-◌, ◌*◌, ◌≤◌, ◌<◌, min, max, arith, eqb}
+use Rattle.std.proofs.lemmas.Bool.{eqb-true, eqb-false}
 use Rattle.definition.specs.Metric.{gap, saturated, squared}
 use Rattle.laws.specs.Truth.{branch, decide}
 use Rattle.theory.specs.Metric.{squared-saturated, squared-clear}

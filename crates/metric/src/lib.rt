@@ -147,8 +147,8 @@ fn rest(a: &[u8], b: &[u8], from: usize, to: usize) -> u32
     eight(a, b, from) + few(a, b, middle, to)
 }
 
-// What the samples from `from` up to `to` add to the distance of two vectors. Where there is no rest, as with the tower's 64, what the sixteens add is returned
-// as it is: were it always added to something, the compiler, where it has both in one function, would not keep the sixteen sums together.
+// What the samples from `from` up to `to` add to the distance of two vectors. Where there is no rest, as with the tower's 64, what the sixteens add is
+// returned as it is: were it always added to something, the compiler, where it has both in one function, would not keep the sixteen sums together.
 pub fn stretch(a: &[u8], b: &[u8], from: usize, to: usize) -> u32
     requires { Stretch a.now b.now from to }
     ensures { Adds a.now b.now from to result }

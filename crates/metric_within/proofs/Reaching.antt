@@ -1,9 +1,5 @@
 -- What the first samples add is no more than the distance: so where it is above a bound, the distance is too. What all of them add is the distance.
-use mathlib.Core.Path.{◌≡◌}
-use mathlib.Core.List.{List}
-use Prim.Native.Nat.{ℕ, ◌≤◌, ◌<◌}
-use native.Mathlib.Omega.{arith}
-use lib.ListN.{length}
+use Rattle.std.proofs.Common.{◌≡◌, List, ℕ, ◌≤◌, ◌<◌, length, arith}
 use Rattle.definition.specs.Metric.{metric}
 use Rattle.whole.specs.Whole.{farthest}
 use Rattle.theory.specs.Metric.{Bytes, good_most, byte_metric}

@@ -14,21 +14,6 @@ use Rattle.batch_fresh.proofs.Making.{holding_blank}
 use Rattle.laws.specs.Tables.{row_fits}
 use Rattle.batch_fresh.proofs.node_pool.Goals as goal
 
--- the node's vector lies in the vectors
-fits : (c : goal.Start) → c.args.node * c.args.g.dim + c.args.g.dim ≤ length c.args.vectors.now
-fits c =
-    let a = c.args in
-    omega (arith, row_fits a.node a.g.n a.g.dim c.requires.insertable.node_in, c.requires.walk_limits.limits.vectors_are)
-
-pub overflow_mul-at : goal.overflow_mul-at
-overflow_mul-at c = omega (arith, fits c, c.well-formed.1.0)
-
-pub overflow_add-end : goal.overflow_add-end
-overflow_add-end c = omega (arith, fits c, c.well-formed.1.0)
-
-pub slice_bounds-collect_pool-end : goal.slice_bounds-collect_pool-end
-slice_bounds-collect_pool-end c = fits c
-
 pub collect_pool-requires : goal.collect_pool-requires
 collect_pool-requires c =
     let a = c.args in
@@ -66,4 +51,4 @@ returns c =
     }
 
 pub shape_of-words : goal.shape_of-words
-shape_of-words c = (returns c).0.grown.kept.size
+shape_of-words c = (returns c).node_pool.grown.kept.size

@@ -6,23 +6,18 @@ use Rattle.batch_affected.specs.Says.{merged_most}
 use Rattle.batch_merge.proofs.OneRow.{gather_asks, fit_asks, row_merged}
 use Rattle.batch_merge.proofs.merge_row.Goals as goal
 
--- from the node's word back to the call
-abbrev called : goal.After-word_of-node → goal.Start
-called c = c
-
 pub gather_node-count-requires : goal.gather_node-count-requires
 gather_node-count-requires c =
-    let s = called c in
-    gather_asks s.pre.0 c.word_of-node.ensures
+    let asks = gather_asks c.requires.row_ready c.word_of-node.ensures in
+    record { node_lt_n = asks.0; ready = asks.1 }
 
 pub fit_row-requires : goal.fit_row-requires
 fit_row-requires c =
-    let s = called c in
     let list = c.gather_node-count in
-    fit_asks s.pre.0 c.word_of-node.ensures list.ensures
-    (replicate merged_most 0) _ list.auto.1.1.1.1.1.1.0 (length-replicate {A = ℕ} merged_most 0) s.pre.1
+    let asks = fit_asks c.requires.row_ready c.word_of-node.ensures list.ensures
+    (replicate merged_most 0) _ list.auto.list (length-replicate {A = ℕ} merged_most 0) c.requires.most_factors_in_bounds in
+    record { fittable = asks.0; dists_len = asks.1 }
 
 pub returns : goal.returns
 returns c =
-    let s = called c in
-    row_merged s.pre.0 c.word_of-node.ensures c.gather_node-count.ensures c.fit_row.ensures
+    row_merged c.requires.row_ready c.word_of-node.ensures c.gather_node-count.ensures c.fit_row.ensures

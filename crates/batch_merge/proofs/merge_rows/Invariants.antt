@@ -12,7 +12,7 @@ use Rattle.batch_merge.proofs.merge_rows.Given as goal
 
 abbrev pub invariant-loop-i : goal.invariant-loop-i
 invariant-loop-i l =
-    Turned (given l.g l.vectors) (merging l.g.n l.nodes l.words) l.initial.wide l.wide l.i × (length l.factors ≡ length l.initial.factors)
+    Turned (given l.g l.vectors) (merging l.g.n l.nodes l.words) l.initial.wide l.wide l.i
 
 abbrev pub decreases-loop-i : goal.decreases-loop-i
 decreases-loop-i l = l.n - l.i

@@ -3,7 +3,6 @@ use mathlib.Core.Path.{refl}
 use Prim.Native.Nat.{zero-le}
 use native.Mathlib.Nat.{zero-add}
 use native.Mathlib.Omega.{arith}
-use borrow.Author.Rules.{rules}
 use Rattle.scratch.specs.Zeroed.{zeroed_within, zeroed_at}
 use Rattle.marks.proofs.first_epoch.Goals as goal
 

@@ -1,11 +1,8 @@
 -- `gather`. The loop's invariant: what was done so far is what the words passed so far do.
 use mathlib.Core.Path.{◌≡◌}
 use Prim.Native.Nat.{◌-◌, ◌≤◌}
-use native.Mathlib.Omega.{arith}
 use lib.ListN.{length, take}
-use borrow.Author.Rules.{rules}
 use Rattle.marks.specs.Marked.{Gathers}
-use Rattle.marks.proofs.Noting.{gather_none, gather_more, gather_fits, gather_end}
 use Rattle.marks.proofs.gather.Given as goal
 
 abbrev pub invariant-loop-k : goal.invariant-loop-k

@@ -1,5 +1,4 @@
 -- `note`: each of its stores is one of the contract's.
-use borrow.Author.Rules.{rules}
 use Rattle.marks.proofs.Noting.{noted}
 use Rattle.marks.proofs.note.Goals as goal
 

@@ -1,17 +1,8 @@
 -- `metric::add_sixteen` meets its contract. The loop's invariant: the sixteen sums with what is still to come stay the same. Assumes nothing.
-use mathlib.Core.Path.{◌≡◌, refl, subst}
-use mathlib.Core.List.{List}
-use Prim.Native.Nat.{ℕ, ◌+◌, ◌-◌, ◌≤◌}
-use native.Mathlib.Nat.{add-zero, add_assoc}
-use native.Mathlib.Omega.{arith}
-use lib.ListN.{get_or, set, drop}
+use Rattle.std.proofs.Common.{List, ℕ, ◌+◌, ◌-◌, ◌≤◌, drop}
 use Rattle.definition.specs.Lists.{total}
 use Rattle.definition.specs.Metric.{metric}
-use Rattle.metric.specs.Stretches.{Sixteen, adds_one, total_more, sum-total, sixteen_more}
-use borrow.Author.Rules.{rules}
-use Rattle.metric.proofs.add_sixteen.Reads as reads
-use Rattle.metric.proofs.add_sixteen.Lts as lts
-use Rattle.metric.proofs.squared.Reads as squared-reads
+use Rattle.metric.specs.Stretches.{Sixteen}
 use Rattle.metric.proofs.add_sixteen.Given as goal
 
 -- the sums with what is still to come

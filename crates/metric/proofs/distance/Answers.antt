@@ -1,16 +1,9 @@
 -- `distance`.
-use mathlib.Core.Path.{sym, ap, ◌∙◌}
-use Prim.Native.Nat.{ℕ}
+use Rattle.std.proofs.Common.{ℕ, sym, ap, ◌∙◌}
 use Rattle.definition.specs.Metric.{whole}
 use Rattle.definition.specs.Outcome.{answer}
 use Rattle.metric.specs.Laws.{exact_in_float}
 use Rattle.metric.specs.Cases.{distance_none, distance_long, distance_unequal, distance_done}
-use borrow.Author.Rules.{rules}
-use Rattle.metric.proofs.distance.Reads as reads
-use Rattle.metric.proofs.distance.Lts as lts
-use Rattle.answers.proofs.measured.Reads as measured-reads
-use Rattle.answers.proofs.refused.Reads as refused-reads
-use Rattle.metric.proofs.summed.Reads as summed-reads
 use Rattle.metric.proofs.distance.Goals as goal
 
 pub returns-then-dim-eq0 : goal.returns-then-dim-eq0
@@ -27,6 +20,6 @@ int_to_float-summed c = exact_in_float _ _ c.summed.ensures
 
 pub returns : goal.returns
 unfolding whole
-returns-then-dim-eq0 c =
+returns c =
     c.measured.ensures ∙ ap (λ (n : ℕ). answer 0 0 0 0 (whole n)) c.summed.ensures.is
     ∙ sym (distance_done _ _ c.if-dim-eq0.false c.if-dim-gt256.false c.if-dim-b.false)

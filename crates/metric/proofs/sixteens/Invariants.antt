@@ -1,14 +1,8 @@
 -- `metric::sixteens` meets its contract. The loop's invariant: the sixteen sums with what is still to come are what the samples from `from` on add.
 -- Assumes nothing.
-use mathlib.Core.Path.{◌≡◌, subst, ◌∙◌}
-use Prim.Native.Nat.{ℕ, ◌+◌, ◌-◌, ◌%◌, ◌≤◌}
-use native.Mathlib.Omega.{arith}
-use lib.ListN.{drop}
-use borrow.Author.Rules.{rules}
-use Rattle.definition.specs.Lists.{total}
+use Rattle.std.proofs.Common.{◌≡◌, ◌-◌, ◌%◌, ◌≤◌, drop}
 use Rattle.definition.specs.Metric.{metric}
-use Rattle.whole.specs.Whole.{farthest}
-use Rattle.metric.specs.Stretches.{Adds, Sixteen, sixteen_none, sixteen_adds, from_small}
+use Rattle.metric.specs.Stretches.{Sixteen}
 use Rattle.metric.proofs.sixteens.Given as goal
 
 abbrev pub invariant-loop-i : goal.invariant-loop-i

@@ -1,7 +1,5 @@
 -- `metric::summed` meets its contract: what all samples add is the distance. Assumes nothing.
-use mathlib.Core.Path.{subst}
-use Prim.Native.Nat.{ℕ, ◌≤◌}
-use borrow.Author.Rules.{rules}
+use Rattle.std.proofs.Common.{ℕ, ◌≤◌, subst}
 use Rattle.whole.specs.Whole.{farthest}
 use Rattle.metric.specs.Stretches.{adds_all, adds_small}
 use Rattle.metric.proofs.summed.Goals as goal
@@ -9,7 +7,5 @@ use Rattle.metric.proofs.summed.Goals as goal
 pub returns : goal.returns
 returns c =
     let is = adds_all _ _ _ c.stretch.ensures in
-    let small =
-    adds_small _ _ _ _ _ (λ k. (c.shared_slice_known-1.given k).fits) (λ k. (c.shared_slice_known-2-1.given k).fits)
-    c.requires.1 c.stretch.ensures in
+    let small = adds_small _ _ _ _ _ (λ k. (c.type_inv.a k).fits) (λ k. (c.type_inv.b k).fits) c.requires.1 c.stretch.ensures in
     record { is = is; small = subst (λ (n : ℕ). n ≤ farthest) is small }

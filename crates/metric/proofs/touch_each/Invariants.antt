@@ -1,10 +1,5 @@
 -- `touch_each`. Both samples lie in the entry's vector, since dim is not 0. The loop's invariant: there is a place for each.
-use mathlib.Core.Path.{◌≡◌}
-use Prim.Native.Nat.{ℕ, ◌+◌, ◌-◌, ◌*◌}
-use native.Mathlib.Omega.{arith}
-use lib.ListN.{length, get_or, length-set}
-use borrow.Author.Rules.{rules}
-use Rattle.metric.specs.Exact.{VectorIn}
+use Rattle.std.proofs.Common.{◌≡◌, ◌-◌, length}
 use Rattle.metric.proofs.touch_each.Given as goal
 
 abbrev pub invariant-loop-j : goal.invariant-loop-j

@@ -1,7 +1,6 @@
 -- `from_query_within`.
-use native.Mathlib.Nat.{add-sub_cancel_left}
+use Rattle.std.proofs.Math.Nat.{add-sub_cancel_left}
 use Rattle.definition.specs.Metric.{from_query, vector}
-use borrow.Author.Rules.{rules}
 use Rattle.metric_within.proofs.from_query_within.Goals as goal
 
 pub returns : goal.returns

@@ -24,7 +24,7 @@ lookup_accepted-found-requires c =
 
 pub returns : goal.returns
 unfolding cleaned_call
-returns-then-refusal-ne0 c =
+returns c =
     lookup_meets _ _
     (search_done_lem (asked c) _ c.lookup_number_lem.ensures c.if-refusal-ne0.false _
     (searched-same c.searched.ensures c.lookup_accepted-found.ensures))

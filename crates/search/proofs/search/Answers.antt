@@ -20,5 +20,5 @@ search_accepted-requires c =
     (beside-accepted (asked c) _ _ c.search_number_lem.ensures c.if-number-ne0.false).0
 
 pub returns : goal.returns
-returns-then-number-ne0 c =
+returns c =
     search_done_lem (asked c) _ c.search_number_lem.ensures c.if-number-ne0.false _ c.search_accepted.ensures
