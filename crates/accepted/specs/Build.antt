@@ -7,7 +7,7 @@ use Rattle.definition.specs.Refusals.{BatchCall, OpenCall, CloseCall, BuildCall,
 use Rattle.laws.specs.Truth.{or_neither}
 use Rattle.theory.specs.Rule.{Ruled}
 use Rattle.accepted.specs.Chain.{passed}
-use Rattle.accepted.specs.Checks.{Entries, entries_good, count_good, Degree, degree_good, beam_good, AlphaLow, alpha_good, start_good, Seeded}
+use Rattle.accepted.specs.Checks.{Entries, entries_good, count_some, count_few, Degree, degree_good, beam_good, AlphaLow, alpha_good, start_good, Seeded}
 use Rattle.accepted.specs.Checks.{seeds_good, length_good, table_good, Listed, nodes_good, order_good, room_good}
 
 -- the first six checks of batch and build are passed, and the later ones say 0
@@ -85,10 +85,9 @@ open_accepted c e =
     let p₃ = passed 2 _ _ p₂.1 in
     let p₈ = passed 7 _ _ p₃.1 in
     let tables = or_neither (bad_table c.n c.degree c.opening) (bad_length c.n (slack c.degree) c.wide) p₈.0 in
-    let n = count_good c.n p₂.0 in
     record {
-      nodes_some = n.0;
-      nodes = n.1;
+      nodes_some = count_some c.n p₂.0;
+      nodes = count_few c.n p₂.0;
       degree = degree_good c.degree p₃.0;
       opening = table_good c.n c.degree c.opening tables.0;
       wide_is = length_good c.n (slack c.degree) c.wide tables.1;

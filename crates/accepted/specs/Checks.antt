@@ -24,9 +24,16 @@ pub dim_good : (dim : ℕ) → bad_dim dim ≡ false → (1 ≤ dim) × (dim ≤
 unfolding bad_dim
 dim_good dim e = let s = or_neither (eqb dim 0) (ltb 256 dim) e in let z = eqb-false dim 0 s.0 in (omega arith, ltb-false 256 dim s.1)
 
-pub count_good : (n : ℕ) → bad_count n ≡ false → (1 ≤ n) × (n ≤ 65536)
+pub count_some : (n : ℕ) → bad_count n ≡ false → 1 ≤ n
 unfolding bad_count
-count_good n e = let s = or_neither (eqb n 0) (ltb 65536 n) e in let z = eqb-false n 0 s.0 in (omega arith, ltb-false 65536 n s.1)
+count_some n e = let s = or_neither (eqb n 0) (ltb 65536 n) e in let z = eqb-false n 0 s.0 in omega arith
+
+pub count_few : (n : ℕ) → bad_count n ≡ false → n ≤ 65536
+unfolding bad_count
+count_few n e = ltb-false 65536 n (or_neither (eqb n 0) (ltb 65536 n) e).1
+
+pub count_good : (n : ℕ) → bad_count n ≡ false → (1 ≤ n) × (n ≤ 65536)
+count_good n e = (count_some n e, count_few n e)
 
 -- no id is the padding word
 pub count_low : {n : ℕ} → n ≤ 65536 → n < pad
@@ -37,8 +44,7 @@ pub vectors_good : (n dim : ℕ) (vectors : List ℕ) → bad_vectors n dim vect
 unfolding bad_vectors
 vectors_good n dim vectors e =
     let s = or_neither (bad_count n) (not (eqb (length vectors) (n * dim))) e in
-    let t = count_good n s.0 in
-    (t.0, t.1, eqb-true (length vectors) (n * dim) (not-false _ s.1))
+    (count_some n s.0, count_few n s.0, eqb-true (length vectors) (n * dim) (not-false _ s.1))
 
 pub record Entries (n dim : ℕ) (vectors : List ℕ) : Type 0 where
   pub dim_some : 1 ≤ dim

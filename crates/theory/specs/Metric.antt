@@ -62,10 +62,14 @@ squared_cases P a b z n =
     branch P (eqb a 255 || eqb b 255) (λ t. z)
     (λ t. let e = or_neither (eqb a 255) (eqb b 255) t in n (eqb-false a 255 e.0) (eqb-false b 255 e.1))
 
-pub squared_most : (a b : ℕ) → a < 256 → b < 256 → squared a b ≤ 64516
+-- 255 adds nothing, so that no two samples that add something are more than 254 apart
+square_most : (a b : ℕ) → a < 256 → b < 256 → squared a b ≤ 254 * 254
 unfolding gap
-squared_most a b p q =
-    squared_cases (λ (s : ℕ). s ≤ 64516) a b zero-le (λ u v. let g : gap a b ≤ 254 = omega arith in mul-le-mul g g)
+square_most a b p q =
+    squared_cases (λ (s : ℕ). s ≤ 254 * 254) a b zero-le (λ u v. let g : gap a b ≤ 254 = omega arith in mul-le-mul g g)
+
+pub squared_most : (a b : ℕ) → a < 256 → b < 256 → squared a b ≤ 64516
+squared_most a b p q = square_most a b p q
 
 squared_sym : (a b : ℕ) → squared a b ≡ squared b a
 unfolding squared gap
@@ -97,7 +101,7 @@ unfolding summed
 summed_most [] ys p q = zero-le
 summed_most (x ∷ xs) [] p q = zero-le
 summed_most (x ∷ xs) (y ∷ ys) p q =
-    let a = squared_most x y (p 0) (q 0) in
+    let a = square_most x y (p 0) (q 0) in
     let b = summed_most xs ys (λ k. p (suc k)) (λ k. q (suc k)) in
     omega arith
 

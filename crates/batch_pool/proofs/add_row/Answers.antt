@@ -21,9 +21,6 @@ pub add_once-len-requires : goal.add_once-len-requires
 add_once-len-requires c =
     let low = c.requires.searchable c.loop-k.k (omega arith) c.if-id.true in record { pooled = c.loop-k.invariant.added.pooled; n_bound = (c.requires.n_bound, low) }
 
-pub loop-k-smaller : goal.loop-k-smaller
-loop-k-smaller c = omega arith
-
 pub loop-k-preserved : goal.loop-k-preserved
 loop-k-preserved c =
     let h : c.loop-k.k < length c.args.row.now = omega arith in

@@ -19,9 +19,6 @@ add_once-more-requires c =
     simp (c.visited_at-ids_at.ensures, c.pool_at-pool_at.ensures, c.pool_end-pool_end.ensures)
     (record { pooled = f.added.pooled; n_bound = (q.0, subst (λ (i : ℕ). i < c.args.n) (sym (id_kept _ _ _ c.loop-k.k f h q.1)) low) })
 
-pub loop-k-smaller : goal.loop-k-smaller
-loop-k-smaller c = omega arith
-
 pub loop-k-preserved : goal.loop-k-preserved
 loop-k-preserved c =
     let q = c.requires.n_bound in

@@ -20,9 +20,6 @@ pub add_walk-s-requires : goal.add_walk-s-requires
 add_walk-s-requires c =
     let room = c.requires.seeds_bound.0 in record { walkable = c.requires.walkable; epoch_bound = (omega (arith, c.loop-k.invariant.1), c.loop-k.invariant.2.holding); start_lt_n = c.requires.below c.loop-k.k (omega arith) }
 
-pub loop-k-smaller : goal.loop-k-smaller
-loop-k-smaller c = omega arith
-
 pub loop-k-preserved : goal.loop-k-preserved
 loop-k-preserved c =
     let d = from_query c.args.p.dim c.args.vectors.now c.args.query.now in

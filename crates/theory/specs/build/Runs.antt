@@ -53,4 +53,4 @@ module _ (g : Setting) (start extra : ℕ) where
       → built g start extra order seeds opening ≡ batches g start extra ((length order + 255) / 256) order seeds (open' g.n g.degree opening)
   unfolding built batch_size
   built_runs order seeds opening =
-      batches_same (length order) ((length order + 255) / 256) order seeds (open' g.n g.degree opening) (omega arith) (runs_some order)
+      batches_same (length order) ((length order + 255) / 256) order seeds (open' g.n g.degree opening) (omega arith) (omega arith)

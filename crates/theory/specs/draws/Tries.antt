@@ -53,13 +53,16 @@ module _ (n : ℕ) (taken : List ℕ) where
       subst (λ (z : ℕ). Mem z taken) t.2 (all t.0 (omega arith))) in
       omega (arith, length-map (run 0 k) f, length_run 0 k)
 
-  soon_free : (r : ℕ) → length taken < n → (t : ℕ) × (t ≤ length taken) × Free r t
-  soon_free r h = go (first_or_none r (suc (length taken)))
+  -- so of k places, more than are taken, one is free
+  free_among : (r k : ℕ) → length taken < k → k ≤ n → (t : ℕ) × (t < k) × Free r t
+  free_among r k more h = go (first_or_none r k)
     where
-      go : ((t : ℕ) × (t < suc (length taken)) × Free r t) ⊎ ((j : ℕ) → j < suc (length taken) → Mem ((r + j) % n) taken)
-          → (t : ℕ) × (t ≤ length taken) × Free r t
-      go (inl f) = let l = f.1 in (f.0, omega arith, f.2)
-      go (inr all) = absurd (omega (arith, places_few r (suc (length taken)) h all))
+      go : ((t : ℕ) × (t < k) × Free r t) ⊎ ((j : ℕ) → j < k → Mem ((r + j) % n) taken) → (t : ℕ) × (t < k) × Free r t
+      go (inl f) = f
+      go (inr all) = absurd (omega (arith, places_few r k h all))
+
+  soon_free : (r : ℕ) → length taken < n → (t : ℕ) × (t ≤ length taken) × Free r t
+  soon_free r h = let f = free_among r (suc (length taken)) (le_refl (suc (length taken))) (omega arith) in let l = f.1 in (f.0, omega arith, f.2)
 
   next_free : (r t : ℕ) → Free r (suc t) → Free (r + 1) t
   next_free r t f = record {
@@ -86,14 +89,14 @@ module _ (n : ℕ) (taken : List ℕ) where
   -- with as much fuel as there are taken, or more, n among it
   pub first_free_tries : (fuel r : ℕ) → length taken < n → length taken ≤ fuel → FoundFrom n taken r (length taken) (first_free n taken fuel r)
   first_free_tries fuel r h k =
-      let s = soon_free r h in
+      let s = free_among r (suc (length taken)) (le_refl (suc (length taken))) h in
       let l = s.1 in
       let is = comes_to fuel r s.0 (omega arith) s.2 in
-      record { over = s.0; few = s.1; is = is; passed = s.2.passed; free = subst (λ (x : ℕ). ¬ Mem x taken) (sym is) s.2.free }
+      record { over = s.0; few = omega arith; is = is; passed = s.2.passed; free = subst (λ (x : ℕ). ¬ Mem x taken) (sym is) s.2.free }
 
   -- so that more fuel gives nothing else
   pub first_free_enough : (fuel r : ℕ) → length taken < n → length taken ≤ fuel → first_free n taken fuel r ≡ first_free n taken n r
   first_free_enough fuel r h k =
-      let s = soon_free r h in
+      let s = free_among r (suc (length taken)) (le_refl (suc (length taken))) h in
       let l = s.1 in
       comes_to fuel r s.0 (omega arith) s.2 ∙ sym (comes_to n r s.0 (omega arith) s.2)

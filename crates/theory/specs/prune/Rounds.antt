@@ -31,15 +31,19 @@ pub record Ends (target : Float) : Type 0 where
   pub soon : last < most_rounds
   pub reached : above target (current_after target last) ≡ false
 
+-- there is one
+abbrev Reached : Float → Type 0
+Reached target = (k : ℕ) × (k < most_rounds) × (above target (current_after target k) ≡ false)
+
 -- a finite value is not below itself
 irrefl : (m : ℕ) (e : ℤ) → lt (fin false m e) (fin false m e) ≡ false
 unfolding lt
 irrefl m e = le-ltb (m * up e * down e) (m * up e * down e) (le_refl (m * up e * down e))
 
 -- current has reached t
-reached : (m : ℕ) (e : ℤ) (k : ℕ) → k < most_rounds → current_after (fin false m e) k ≡ fin false m e → Ends (fin false m e)
+reached : (m : ℕ) (e : ℤ) (k : ℕ) → k < most_rounds → current_after (fin false m e) k ≡ fin false m e → Reached (fin false m e)
 unfolding above
-reached m e k h q = record { last = k; soon = h; reached = ap (λ (x : Float). lt x (fin false m e)) q ∙ irrefl m e }
+reached m e k h q = (k, h, ap (λ (x : Float). lt x (fin false m e)) q ∙ irrefl m e)
 
 -- C times 1.2, l times
 chained : ℕ → Float → Float
@@ -55,13 +59,13 @@ next_is t C j b q =
 
 -- where current becomes the smaller of D and the target, the target is reached or D goes on
 passes : (m : ℕ) (e : ℤ) (j : ℕ) (D : Float) → current_after (fin false m e) (suc j) ≡ cond (lt (fin false m e) D) (fin false m e) D → suc j < most_rounds
-    → (current_after (fin false m e) (suc j) ≡ D → lt (fin false m e) D ≡ false → Ends (fin false m e)) → Ends (fin false m e)
+    → (current_after (fin false m e) (suc j) ≡ D → lt (fin false m e) D ≡ false → Reached (fin false m e)) → Reached (fin false m e)
 passes m e j D q h on =
     decide (lt (fin false m e) D) (λ p. reached m e (suc j) h (q ∙ ap (λ (c : Bool). cond c (fin false m e) D) p))
     (λ p. on (q ∙ ap (λ (c : Bool). cond c (fin false m e) D) p) p)
 
 chain : (m : ℕ) (e : ℤ) → lt one_point_two (fin false m e) ≡ true → (l j : ℕ) (C : Float) → current_after (fin false m e) j ≡ C
-    → lt (fin false m e) (chained (suc l) C) ≡ true → j + suc l < most_rounds → Ends (fin false m e)
+    → lt (fin false m e) (chained (suc l) C) ≡ true → j + suc l < most_rounds → Reached (fin false m e)
 unfolding chained
 chain m e b zero j C q h bound = passes m e j (times C one_point_two) (next_is (fin false m e) C j b q) (omega arith) (λ r p. absurd (not_both p h))
 chain m e b (suc l) j C q h bound =
@@ -130,16 +134,11 @@ nine : (k : ℕ) → k < 9 → k < most_rounds
 unfolding most_rounds
 nine k h = h
 
-small : (m : ℕ) (e : ℤ) → T (fits binary32 (fin false m e)) → lt one_point_two (fin false m e) ≡ false → Ends (fin false m e)
+small : (m : ℕ) (e : ℤ) → T (fits binary32 (fin false m e)) → lt one_point_two (fin false m e) ≡ false → Reached (fin false m e)
 unfolding above
 small m e f b =
     passes m e 0 (times one (fin false m e)) (after_one (fin false m e) b) (nine 1 (lit< tt))
-    (λ r p. record {
-      last = 1;
-      soon = nine 1 (lit< tt);
-      reached = ap (λ (x : Float). lt x (fin false m e)) r ∙ not_below (times one (fin false m e)) m e
-          (times-one m e f);
-    })
+    (λ r p. (1, nine 1 (lit< tt), ap (λ (x : Float). lt x (fin false m e)) r ∙ not_below (times one (fin false m e)) m e (times-one m e f)))
 
 -- ---- together
 
@@ -147,7 +146,7 @@ first : (t : Float) → current_after t 0 ≡ one
 unfolding current_after
 first t = refl
 
-above-one : (t : Float) → T (fits binary32 t) → lt four t ≡ false → lt one t ≡ true → Ends t
+above-one : (t : Float) → T (fits binary32 t) → lt four t ≡ false → lt one t ≡ true → Reached t
 unfolding lt one four one_point_two of_bits
 above-one nan f h b = absurd (false≢true b)
 above-one (inf true) f h b = absurd (false≢true b)
@@ -156,14 +155,17 @@ above-one (fin true m e) f h b = absurd (false≢true b)
 above-one (fin false m e) f h b =
     decide (lt one_point_two (fin false m e)) (λ p. chain m e p 7 0 one (first (fin false m e)) (past-four m e h) (nine 8 (lit< tt))) (λ p. small m e f p)
 
-at_one : Ends one
+at_one : Reached one
 unfolding above current_after one lt of_bits
-at_one = record { last = 0; soon = nine 0 (lit< tt); reached = refl }
+at_one = (0, nine 0 (lit< tt), refl)
 
 -- fits: every f32 does
-pub rounds_end : (alpha : Float) → T (fits binary32 alpha) → above alpha four ≡ false → Ends (target_of alpha)
+reaches : (alpha : Float) → T (fits binary32 alpha) → above alpha four ≡ false → Reached (target_of alpha)
 unfolding target_of larger above
-rounds_end alpha f h = branch Ends (lt one alpha) (λ p. above-one alpha f h p) (λ p. at_one)
+reaches alpha f h = branch Reached (lt one alpha) (λ p. above-one alpha f h p) (λ p. at_one)
+
+pub rounds_end : (alpha : Float) → T (fits binary32 alpha) → above alpha four ≡ false → Ends (target_of alpha)
+rounds_end alpha f h = let e = reaches alpha f h in record { last = e.0; soon = e.1; reached = e.2 }
 
 -- ---- so more fuel changes nothing
 
@@ -184,10 +186,10 @@ pub rounds-enough : (pair : ℕ → ℕ → ℕ) (alpha : Float) → T (fits bin
     → rounds pair (target_of alpha) fuel one room cs fs ≡ rounds pair (target_of alpha) most_rounds one room cs fs
 unfolding current_after
 rounds-enough pair alpha f h fuel room cs fs enough =
-    let e = rounds_end alpha f h in
-    let l = e.soon in
-    let z : e.last ≡ 0 + e.last = omega arith in
-    let stop : above (target_of alpha) (current_after (target_of alpha) (0 + e.last)) ≡ false =
-    subst (λ (k : ℕ). above (target_of alpha) (current_after (target_of alpha) k) ≡ false) z e.reached in
-    stops_at pair (target_of alpha) e.last 0 fuel room cs fs (omega arith) stop ∙ sym
-    (stops_at pair (target_of alpha) e.last 0 most_rounds room cs fs l stop)
+    let e = reaches alpha f h in
+    let l = e.1 in
+    let z : e.0 ≡ 0 + e.0 = omega arith in
+    let stop : above (target_of alpha) (current_after (target_of alpha) (0 + e.0)) ≡ false =
+    subst (λ (k : ℕ). above (target_of alpha) (current_after (target_of alpha) k) ≡ false) z e.2 in
+    stops_at pair (target_of alpha) e.0 0 fuel room cs fs (omega arith) stop ∙ sym
+    (stops_at pair (target_of alpha) e.0 0 most_rounds room cs fs l stop)

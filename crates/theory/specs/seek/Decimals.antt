@@ -52,7 +52,8 @@ more_printed v bs h p =
       reads_back = reads_snoc 0 bs (48 + v % 10) ∙ omega (arith, p.reads_back);
     }
 
-digits_printed : (fuel v : ℕ) → v < 10 ^ suc fuel → Printed v (digits (suc fuel) v)
+-- with fuel for as many digits as it has
+pub digits_printed : (fuel v : ℕ) → v < 10 ^ suc fuel → Printed v (digits (suc fuel) v)
 unfolding digits
 digits_printed zero v h = rw (lt-ltb v 10 h) (one_printed v h)
 digits_printed (suc fuel) v h = go (ltb v 10) refl (λ l. digits_printed fuel (v / 10) l)

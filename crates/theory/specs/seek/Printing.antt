@@ -10,7 +10,7 @@ use Rattle.definition.specs.Lists.{each, joined}
 use Rattle.definition.specs.Beam.{Item, item}
 use Rattle.definition.specs.Seek.{splits, ended, words_from, is_digit, decimal_from, decimal, print_item, print_found}
 use Rattle.laws.specs.Truth.{and_both, neither_or}
-use Rattle.theory.specs.seek.Decimals.{decimal_reads_back}
+use Rattle.theory.specs.seek.Decimals.{Printed, digits_printed}
 
 -- the decimals that stand in some bytes
 unfoldable pub numbers_in : List ℕ → List ℕ
@@ -52,9 +52,9 @@ ended_some [] ws h = absurd (omega arith)
 ended_some (b ∷ bs) ws h = refl
 
 number_ends : (v b : ℕ) (rest : List ℕ) → v < 10 ^ 20 → splits b ≡ true → numbers_in (decimal v ++ b ∷ rest) ≡ v ∷ numbers_in rest
-unfolding numbers_in
+unfolding numbers_in decimal
 number_ends v b rest h s =
-    let p = decimal_reads_back v h in
+    let p : Printed v (decimal v) = digits_printed 19 v h in
     ap (map (decimal_from 0)) (word_ends [] (decimal v) b rest p.digit s ∙ ended_some (decimal v) (words_from [] rest) p.some)
     ∙ ap (λ (u : ℕ). u ∷ map (decimal_from 0) (words_from [] rest)) p.reads_back
 
@@ -64,11 +64,6 @@ number_ends v b rest h s =
 unfoldable laid : List Item → List ℕ
 laid [] = []
 laid (x ∷ xs) = x.id ∷ (x.dist ∷ laid xs)
-
-pairs-laid : (xs : List Item) → pairs_of (laid xs) ≡ xs
-unfolding pairs_of laid
-pairs-laid [] = refl
-pairs-laid (x ∷ xs) = ap (λ (l : List Item). x ∷ l) (pairs-laid xs)
 
 -- small enough to be printed whole
 pub record Small (x : Item) : Type 0 where
@@ -105,9 +100,13 @@ lines_read (x ∷ xs) small =
 
 pub items_read_lem : (xs : List Item) → length xs < 10 ^ 20 → ((x : Item) → Mem x xs → Small x)
     → (count_read (print_found xs) ≡ length xs) × (items_read (print_found xs) ≡ xs)
-unfolding count_read items_read print_found
+unfolding count_read items_read print_found pairs_of laid
 items_read_lem xs few small =
     let lines = joined (map print_item xs) in
     let e : numbers_in (decimal (length xs) ++ (10 ∷ []) ++ lines) ≡ length xs ∷ laid xs = ap numbers_in (append_snoc (decimal (length xs)) 10 lines)
     ∙ number_ends (length xs) 10 lines few newline_splits ∙ ap (λ (l : List ℕ). length xs ∷ l) (lines_read xs small) in
     (ap (λ (l : List ℕ). get_or l 0 0) e, ap (λ (l : List ℕ). pairs_of (drop 1 l)) e ∙ pairs-laid xs)
+  where
+    pairs-laid : (xs : List Item) → pairs_of (laid xs) ≡ xs
+    pairs-laid [] = refl
+    pairs-laid (x ∷ xs) = ap (λ (l : List Item). x ∷ l) (pairs-laid xs)
