@@ -5,7 +5,6 @@ use Rattle.definition.specs.Refusals.{SearchCall}
 use Rattle.definition.specs.Outcome.{cleaned_call}
 use Rattle.checks_number.specs.SearchNumber.{call_of}
 use Rattle.search.proofs.Passing.{start_ground, start_room, list_room, answered}
-use borrow.Author.Rules.{rules}
 use Rattle.search.proofs.walk_answers.Goals as goal
 use Rattle.search.proofs.walk_answers.Goals.{Start}
 
