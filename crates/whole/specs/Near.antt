@@ -142,7 +142,7 @@ module _ (f : Format) (n e : ℕ) (small : n < 2 ^ (prec f + e)) (large : 2 ^ pr
       stepped (round f false n 1) q (2 ^ d) (2 ^ l) (2 ^ e) n (q * 2 ^ (d - l)) (pow_pos l) all step (round_val f n 1 low) near
 
 -- ---- any whole number below 2 ^ (prec + e)
-round_near : (f : Format) (n e : ℕ) → n < 2 ^ (prec f + e) → prec f + e ≤ emax f → Near n (2 ^ e) (round f false n 1)
+pub round_near : (f : Format) (n e : ℕ) → n < 2 ^ (prec f + e) → prec f + e ≤ emax f → Near n (2 ^ e) (round f false n 1)
 round_near f n e small room = elim (dec_le (2 ^ prec f) n) [
   | yes g ↦ far f n e small g room
   | no g ↦ let h : 2 ^ prec f ≤ n → ⊥ = g in record { to = n; value = round_whole f false n (omega arith); above = omega arith; below = omega arith }

@@ -29,27 +29,37 @@ pub record IsWhole (x : Float) : Type 0 where
   pub is : x ≡ whole (count x)
   pub small : count x ≤ limit
 
--- ---- a number up to 2 ^ 24, and its f32
-module _ (n : ℕ) (h : n ≤ limit) where
-  pub value : HasValue (whole n) false n 1
+-- ---- a number up to 2 ^ 24, and its f32. What the other files here say of `limit` rests on this
+module _ (n : ℕ) (h : n ≤ 2 ^ 24) where
+  pub exact : HasValue (whole n) false n 1
   unfolding whole of_int
-  value = round_whole binary32 false n h
+  exact = round_whole binary32 false n h
 
-  -- what the cast `n as f32` asks
-  pub in_float_lem : T (in_float binary32 (pos n))
+  cast_exact : T (in_float binary32 (pos n))
   unfolding in_float
-  in_float_lem = le→leb n limit h
+  cast_exact = le→leb n (2 ^ 24) h
 
-  pub count_whole : count (whole n) ≡ n
+  count_exact : count (whole n) ≡ n
   unfolding whole
-  count_whole = (unsigned_back binary32 32 n in_float_lem (lt_of_le_of_lt h (lit< tt))).1
+  count_exact = (unsigned_back binary32 32 n cast_exact (lt_of_le_of_lt h (lit< tt))).1
 
   in_unsigned_lem : T (in_unsigned binary32 32 (whole n))
   unfolding whole
-  in_unsigned_lem = (unsigned_back binary32 32 n in_float_lem (lt_of_le_of_lt h (lit< tt))).0
+  in_unsigned_lem = (unsigned_back binary32 32 n cast_exact (lt_of_le_of_lt h (lit< tt))).0
+
+module _ (n : ℕ) (h : n ≤ limit) where
+  pub value : HasValue (whole n) false n 1
+  value = exact n h
+
+  -- what the cast `n as f32` asks
+  pub in_float_lem : T (in_float binary32 (pos n))
+  in_float_lem = cast_exact n h
+
+  pub count_whole : count (whole n) ≡ n
+  count_whole = count_exact n h
 
   pub is_whole : IsWhole (whole n)
-  is_whole = record { is = ap whole (sym count_whole); small = subst (λ (x : ℕ). x ≤ limit) (sym count_whole) h }
+  is_whole = record { is = ap whole (sym (count_exact n h)); small = subst (λ (x : ℕ). x ≤ limit) (sym (count_exact n h)) h }
 
 -- what the cast back, `x as u32`, asks
 pub count_in_unsigned : (x : Float) → IsWhole x → T (in_unsigned binary32 32 x)
@@ -76,7 +86,7 @@ scaled m k s h =
 part_le : (n : ℕ) (e : ℤ) → n ≤ n * down e
 part_le n e = let h : n * 1 ≤ n * down e = mul-le-mul (le_refl n) (down_pos e) in let o = mul-one n in omega arith
 
-beyond : (s : Bool) (m : ℕ) (e : ℤ) (n : ℕ) → T (fits binary32 (fin s m e)) → m * up e * 1 ≡ n * down e → limit < n → HasValue (whole n) false n 1
+beyond : (s : Bool) (m : ℕ) (e : ℤ) (n : ℕ) → T (fits binary32 (fin s m e)) → m * up e * 1 ≡ n * down e → 2 ^ 24 < n → HasValue (whole n) false n 1
 unfolding fits
 beyond s zero e n f v l = absurd (let p = part_le n e in let z : zero * up e * 1 ≡ 0 = ap (λ (x : ℕ). x * 1) (zero-mul (up e)) in omega arith)
 beyond s (suc m) e n f v l =
@@ -92,9 +102,9 @@ beyond s (suc m) e n f v l =
     at (negsuc k) s hi v = absurd (let p = part_le n (negsuc k) in let o : suc m * 1 * 1 ≡ suc m = mul-one (suc m * 1) ∙ mul-one (suc m) in omega arith)
 
 held : (x : Float) (n : ℕ) → T (fits binary32 x) → HasValue x false n 1 → HasValue (whole n) false n 1
-held (fin s m e) n f v = elim (dec_le n limit) [
-  | yes h ↦ value n h
-  | no g ↦ let l : n ≤ limit → ⊥ = g in beyond s m e n f v.1 (omega arith)
+held (fin s m e) n f v = elim (dec_le n (2 ^ 24)) [
+  | yes h ↦ exact n h
+  | no g ↦ let l : n ≤ 2 ^ 24 → ⊥ = g in beyond s m e n f v.1 (omega arith)
 ]
 held nan n f v = elim v [ ]
 held (inf _) n f v = elim v [ ]

@@ -105,8 +105,8 @@ items_read_lem xs few small =
     let lines = joined (map print_item xs) in
     let e : numbers_in (decimal (length xs) ++ (10 ∷ []) ++ lines) ≡ length xs ∷ laid xs = ap numbers_in (append_snoc (decimal (length xs)) 10 lines)
     ∙ number_ends (length xs) 10 lines few newline_splits ∙ ap (λ (l : List ℕ). length xs ∷ l) (lines_read xs small) in
-    (ap (λ (l : List ℕ). get_or l 0 0) e, ap (λ (l : List ℕ). pairs_of (drop 1 l)) e ∙ paired xs)
+    (ap (λ (l : List ℕ). get_or l 0 0) e, ap (λ (l : List ℕ). pairs_of (drop 1 l)) e ∙ pairs-laid xs)
   where
-    paired : (xs : List Item) → pairs_of (laid xs) ≡ xs
-    paired [] = refl
-    paired (x ∷ xs) = ap (λ (l : List Item). x ∷ l) (paired xs)
+    pairs-laid : (xs : List Item) → pairs_of (laid xs) ≡ xs
+    pairs-laid [] = refl
+    pairs-laid (x ∷ xs) = ap (λ (l : List Item). x ∷ l) (pairs-laid xs)
