@@ -74,22 +74,17 @@ pub data ActsAsOne : Float → Type 0 where
 abbrev pub with_alpha : Float → Params → Params
 with_alpha alpha p = record { degree = p.degree; beam = p.beam; alpha = alpha; extra = p.extra }
 
--- such an alpha is not above 1.0
-acts_low : (alpha : Float) → ActsAsOne alpha → lt one alpha ≡ false
-unfolding lt one of_bits
-acts_low alpha not_a_number = refl
-acts_low alpha (below_one h) = below_not_above alpha h
-
-module _ (p : Params) (h : ActsAsOne p.alpha) where
+-- such an alpha is not above 1.0 (`low`), and nothing else counts
+module _ (p : Params) (h : lt one p.alpha ≡ false) where
   not_5 : bad_alpha p.alpha ≡ bad_alpha one
-  not_5 = alpha_one p.alpha (acts_low p.alpha h)
+  not_5 = alpha_one p.alpha h
 
   target : target_of p.alpha ≡ target_of one
-  target = target_one p.alpha (acts_low p.alpha h)
+  target = target_one p.alpha h
 
 -- a batch
 
-module _ (c : BatchCall) (h : ActsAsOne c.params.alpha) where
+module _ (c : BatchCall) (h : lt one c.params.alpha ≡ false) where
   abbrev batch_one : BatchCall
   batch_one = batch_by (with_alpha one c.params) c
 
@@ -103,9 +98,9 @@ module _ (c : BatchCall) (h : ActsAsOne c.params.alpha) where
       batch_alike c.n (between c.dim c.vectors) c.params.degree c.params.beam c.params.alpha one (target c.params h) c.start
       c.params.extra c.nodes c.seeds c.wide
 
-  pub batch_alpha_one : batch_out c ≡ batch_out (batch_by (with_alpha one c.params) c)
+  batch_low : batch_out c ≡ batch_out (batch_by (with_alpha one c.params) c)
   unfolding batch_out batch_kept batch_done
-  batch_alpha_one =
+  batch_low =
       λ i. by_number (batch_number_lem i) (record { answer = refused (batch_number_lem i); wide = c.wide; words = c.words; floats = c.floats })
       (record {
         answer = done;
@@ -114,9 +109,17 @@ module _ (c : BatchCall) (h : ActsAsOne c.params.alpha) where
         floats = cleared nought (build_floats c.n) c.floats;
       })
 
+pub batch_alpha_one : (c : BatchCall) → ActsAsOne c.params.alpha → batch_out c ≡ batch_out (batch_by (with_alpha one c.params) c)
+unfolding lt one of_bits
+batch_alpha_one c h = batch_low c (low c.params.alpha h)
+  where
+    low : (alpha : Float) → ActsAsOne alpha → lt one alpha ≡ false
+    low alpha not_a_number = refl
+    low alpha (below_one l) = below_not_above alpha l
+
 -- close
 
-module _ (c : CloseCall) (h : ActsAsOne c.params.alpha) where
+module _ (c : CloseCall) (h : lt one c.params.alpha ≡ false) where
   abbrev close_one : CloseCall
   close_one = close_by (with_alpha one c.params) c
 
@@ -129,9 +132,9 @@ module _ (c : CloseCall) (h : ActsAsOne c.params.alpha) where
   close_closed =
       close_alike c.n (between c.dim c.vectors) c.params.degree c.params.beam c.params.alpha one (target c.params h) c.wide
 
-  pub close_alpha_one : close_out c ≡ close_out (close_by (with_alpha one c.params) c)
+  close_low : close_out c ≡ close_out (close_by (with_alpha one c.params) c)
   unfolding close_out close_kept close_done
-  close_alpha_one =
+  close_low =
       λ i. by_number (close_number_lem i) (record { answer = refused (close_number_lem i); closed = c.closed; words = c.words; floats = c.floats })
       (record {
         answer = done;
@@ -140,9 +143,17 @@ module _ (c : CloseCall) (h : ActsAsOne c.params.alpha) where
         floats = cleared nought (build_floats c.n) c.floats;
       })
 
+pub close_alpha_one : (c : CloseCall) → ActsAsOne c.params.alpha → close_out c ≡ close_out (close_by (with_alpha one c.params) c)
+unfolding lt one of_bits
+close_alpha_one c h = close_low c (low c.params.alpha h)
+  where
+    low : (alpha : Float) → ActsAsOne alpha → lt one alpha ≡ false
+    low alpha not_a_number = refl
+    low alpha (below_one l) = below_not_above alpha l
+
 -- a whole build
 
-module _ (c : BuildCall) (h : ActsAsOne c.params.alpha) where
+module _ (c : BuildCall) (h : lt one c.params.alpha ≡ false) where
   abbrev build_one : BuildCall
   build_one = build_by (with_alpha one c.params) c
 
@@ -162,9 +173,9 @@ module _ (c : BuildCall) (h : ActsAsOne c.params.alpha) where
       close_alike c.n (between c.dim c.vectors) c.params.degree c.params.beam c.params.alpha one (target c.params h) (built_wide c)
       ∙ ap (close (setting_of c.n c.dim c.vectors (with_alpha one c.params))) build_wide
 
-  pub build_alpha_one : build_out c ≡ build_out (build_by (with_alpha one c.params) c)
+  build_low : build_out c ≡ build_out (build_by (with_alpha one c.params) c)
   unfolding build_out build_kept build_done
-  build_alpha_one =
+  build_low =
       λ i. by_number (build_number_lem i)
       (record { answer = refused (build_number_lem i); wide = c.wide; closed = c.closed; words = c.words; floats = c.floats })
       (record {
@@ -174,3 +185,11 @@ module _ (c : BuildCall) (h : ActsAsOne c.params.alpha) where
         words = cleared 0 (build_words c.n) c.words;
         floats = cleared nought (build_floats c.n) c.floats;
       })
+
+pub build_alpha_one : (c : BuildCall) → ActsAsOne c.params.alpha → build_out c ≡ build_out (build_by (with_alpha one c.params) c)
+unfolding lt one of_bits
+build_alpha_one c h = build_low c (low c.params.alpha h)
+  where
+    low : (alpha : Float) → ActsAsOne alpha → lt one alpha ≡ false
+    low alpha not_a_number = refl
+    low alpha (below_one l) = below_not_above alpha l

@@ -32,8 +32,9 @@ unfolding search_out search_kept search_done search_number search_number_at sear
 search_beam_zero c e = ap (λ (b : ℕ). search_out (with_beam b c)) e
 
 pub lookup_beam_zero : (c : SearchCall) → c.beam ≡ 0 → lookup_out c ≡ lookup_out (with_beam 1 c)
-unfolding lookup_out cleaned_call
-lookup_beam_zero c e = search_beam_zero (cleaned_call c) e
+unfolding lookup_out cleaned_call search_out search_kept search_done search_number search_number_at search_short bad_beam most_answers
+    found walked found_ids found_dists answers searched
+lookup_beam_zero c e = ap (λ (b : ℕ). lookup_out (with_beam b c)) e
 
 pub records_beam_zero : (c : SearchCall) (records : List Candidate) → c.beam ≡ 0 → records_out c records ≡ records_out (with_beam 1 c) records
 unfolding records_out records_kept records_done search_done records_number search_number_at search_short bad_beam most_answers

@@ -93,27 +93,6 @@ module _ (c : BuildCall) (e : build_number c ≡ 0) where
   unfolding batch_out batch_done
   run_leaves b z = ap (λ (r : BatchOut). r.wide) (by_success (batch_kept b) (batch_done b) (batch_number b) z)
 
-  -- ---- the runs, from any table that keeps its rows
-
-  runs_from : (fuel : ℕ) (order seeds wide : List ℕ) → length order ≤ fuel → Stretch c.n c.start c.params.extra order seeds
-      → TableKept c.n (slack c.params.degree) wide → Runs c order seeds wide (batches g c.start c.params.extra fuel order seeds wide)
-  unfolding batches
-  runs_from zero [] seeds wide h s k = all_run
-  runs_from zero (u ∷ us) seeds wide h s k = absurd (omega arith)
-  runs_from (suc fuel) [] seeds wide h s k = all_run
-  runs_from (suc fuel) (u ∷ us) seeds wide h s k =
-      let rest = drop batch_size (u ∷ us) in
-      let later = drop (batch_size * c.params.extra) seeds in
-      let more : 0 < length (u ∷ us) = omega arith in
-      next_run {last = batches g c.start c.params.extra (suc fuel) (u ∷ us) seeds wide} more
-      (λ words floats r. run_done (u ∷ us) seeds wide words floats s k r)
-      (λ words floats r.
-      let b = run_call c (u ∷ us) seeds wide words floats in
-      subst (λ (t : List ℕ). Runs c rest later (batch_out b).wide (batches g c.start c.params.extra fuel rest later t))
-      (run_leaves b (run_done (u ∷ us) seeds wide words floats s k r))
-      (runs_from fuel rest later (batch_out b).wide (shorter u us fuel h)
-      (stretch_dropped c.n c.start c.params.extra batch_size (u ∷ us) seeds s) (batch_keeps_rows b k)))
-
   -- ---- close
 
   whole : build_out c ≡ build_done c
@@ -162,7 +141,7 @@ module _ (c : BuildCall) (e : build_number c ≡ 0) where
         ∙ ap (λ (o : BuildOut). record { answer = o.answer; closed = o.closed; words = o.words; floats = o.floats }) (sym whole)
 
   pub build_is_calls : ByCalls c
-  unfolding built_wide built setting_of
+  unfolding built_wide built setting_of batches
   build_is_calls =
       record {
         opens = opening_done;
@@ -177,6 +156,25 @@ module _ (c : BuildCall) (e : build_number c ≡ 0) where
         closed_is = closing_leaves;
         leaves = closing_whole;
       }
+    where
+      -- the runs, from any table that keeps its rows
+      runs_from : (fuel : ℕ) (order seeds wide : List ℕ) → length order ≤ fuel → Stretch c.n c.start c.params.extra order seeds
+          → TableKept c.n (slack c.params.degree) wide → Runs c order seeds wide (batches g c.start c.params.extra fuel order seeds wide)
+      runs_from zero [] seeds wide h s k = all_run
+      runs_from zero (u ∷ us) seeds wide h s k = absurd (omega arith)
+      runs_from (suc fuel) [] seeds wide h s k = all_run
+      runs_from (suc fuel) (u ∷ us) seeds wide h s k =
+          let rest = drop batch_size (u ∷ us) in
+          let later = drop (batch_size * c.params.extra) seeds in
+          let more : 0 < length (u ∷ us) = omega arith in
+          next_run {last = batches g c.start c.params.extra (suc fuel) (u ∷ us) seeds wide} more
+          (λ words floats r. run_done (u ∷ us) seeds wide words floats s k r)
+          (λ words floats r.
+          let b = run_call c (u ∷ us) seeds wide words floats in
+          subst (λ (t : List ℕ). Runs c rest later (batch_out b).wide (batches g c.start c.params.extra fuel rest later t))
+          (run_leaves b (run_done (u ∷ us) seeds wide words floats s k r))
+          (runs_from fuel rest later (batch_out b).wide (shorter u us fuel h)
+          (stretch_dropped c.n c.start c.params.extra batch_size (u ∷ us) seeds s) (batch_keeps_rows b k)))
 
 -- ---- the scratch that an accepted batch leaves has the room for the next run and for close, and is untouched beyond it
 

@@ -3,7 +3,7 @@
 -- at most once; distances are at most n, and at most 1 plus degree times expansions". They count what the step definition expanded and visited. No other public
 -- call counts anything.
 use Prim.Native.Nat.{ℕ, zero, suc, ◌+◌, ◌*◌, ◌≤◌, ◌<◌, max, zero-le}
-use Rattle.std.proofs.Common.{arith, sym, ap, ◌∙◌}
+use Rattle.std.proofs.Common.{arith, sym, ap, ◌∙◌, lit≤}
 use Rattle.std.specs.Prelude.{◌≡◌, refl, ◌≢◌, false, length, replicate}
 use Rattle.std.proofs.Math.Path.{subst}
 use mathlib.Core.List.Memᴰ.{head as here}
@@ -85,12 +85,18 @@ module _ (c : SearchCall) (a : SearchAccepted c) where
   unfolding walked searched
   enough_walked more h = greedy-enough (distance_to c) (rows_of c) c.n (max c.beam 1) c.start g.starts g.good more h
 
+  -- after so many more steps that the walk has ended
+  stays_unexpanded : (k : ℕ) (x : Item) → Mem x (walked_for c k).visited → ¬ Mem x (walked_for c k).work → ¬ Mem x.id (walked_for c k).expanded
+      → (more : ℕ) → c.n ≤ k + more → ¬ Mem x.id (walked c).expanded
+  stays_unexpanded k x m left new more enough =
+      subst (λ (s : State). ¬ Mem x.id s.expanded) (after_more g k more ∙ enough_walked (k + more) enough)
+      (left_unexpanded g (omega arith) x (after g k) (begun_keeps g k) m left new more)
+
   -- so of every accepted search, which raises its beam to at least 1; a lookup is the search of its call as cleaned
   pub search_left_never_expanded : (k : ℕ) (x : Item) → Mem x (walked_for c k).visited → ¬ Mem x (walked_for c k).work
       → ¬ Mem x.id (walked_for c k).expanded
       → ¬ Mem x.id (walked c).expanded
-  search_left_never_expanded k x m left new =
-      subst (λ (s : State). ¬ Mem x.id s.expanded) (enough_walked (k + c.n) (omega arith)) (left_never_expanded g (omega arith) k x m left new c.n)
+  search_left_never_expanded k x m left new = stays_unexpanded k x m left new c.n (omega arith)
 
   -- ---- each entry counts once
 
@@ -136,25 +142,22 @@ data Answered (c : SearchCall) : Answer → Type 0 where
   was_refused : (k : ℕ) → Answered c (refused (suc k))
   was_accepted : SearchAccepted c → Answered c (search_done c).answer
 
-answered_tells : {c : SearchCall} {a : Answer} → Answered c a → CountsTell c.n c.degree a
+-- what CountsTell says of it
+answered_tells : {c : SearchCall} {a : Answer} → Answered c a → (a.measured ≤ c.n) × (a.measured ≤ 1 + c.degree * a.expanded) × (a.expanded ≤ a.measured)
 unfolding search_done search_answer refused answer walked searched
-answered_tells (was_refused k) = record { measured_most = zero-le; measured_rows = zero-le; expanded_most = zero-le }
-answered_tells {c} (was_accepted a) =
-    record {
-      measured_most = visited_most (ground c a) (walked c) (walked_kept c a);
-      measured_rows = visited_few (ground c a) c.degree (λ i h. omega (arith, row-length c.n c.degree c.table a.table_is i h));
-      expanded_most = expanded_within (ground c a) (walked c) (walked_kept c a);
-    }
+answered_tells (was_refused k) = (zero-le, zero-le, zero-le)
+answered_tells {c} (was_accepted a) = (
+  visited_most (ground c a) (walked c) (walked_kept c a),
+  visited_few (ground c a) c.degree (λ i h. omega (arith, row-length c.n c.degree c.table a.table_is i h)),
+  expanded_within (ground c a) (walked c) (walked_kept c a),
+)
 
-answered-walk : {c : SearchCall} {a : Answer} → Answered c a → CountsWalk (walked c) a
+-- what CountsWalk says of it
+answered-walk : {c : SearchCall} {a : Answer} → Answered c a
+    → (a.number ≡ 0 → (a.expanded ≡ length (walked c).expanded) × (a.measured ≡ length (walked c).visited)) × (a.number ≢ 0 → CountsNothing a)
 unfolding search_done search_answer refused answer
-answered-walk (was_refused k) =
-    record {
-      expanded_is = λ z. absurd (omega arith);
-      measured_is = λ z. absurd (omega arith);
-      refused_none = λ some. record { none_expanded = refl; none_measured = refl };
-    }
-answered-walk (was_accepted a) = record { expanded_is = λ z. refl; measured_is = λ z. refl; refused_none = λ some. absurd (some refl) }
+answered-walk (was_refused k) = (λ z. absurd (omega arith), λ some. record { none_expanded = refl; none_measured = refl })
+answered-walk (was_accepted a) = (λ z. (refl, refl), λ some. absurd (some refl))
 
 module _ {A : Type 0} (says : A → Answer) (kept success : A) where
   by_answer : (c : SearchCall) (k : ℕ) → says kept ≡ refused k → says success ≡ (search_done c).answer → (k ≡ 0 → SearchAccepted c)
@@ -181,23 +184,35 @@ unfolding lookup_out
 lookup_answered c a is = search_answered (cleaned_call c) a is
 
 pub search_counts : (c : SearchCall) (o : SearchOut) → SearchMeets c o → CountsTell c.n c.degree o.answer
-search_counts c o m = answered_tells (search_answered c o.answer m.answer_is)
+search_counts c o m =
+    let t = answered_tells (search_answered c o.answer m.answer_is) in
+    record { measured_most = t.0; measured_rows = t.1; expanded_most = t.2 }
 
 pub records_counts : (c : SearchCall) (rs : List Candidate) (o : RecordsOut) → RecordsMeets c rs o → CountsTell c.n c.degree o.plain.answer
-records_counts c rs o m = answered_tells (records_answered c rs o.plain m.plain_is)
+records_counts c rs o m =
+    let t = answered_tells (records_answered c rs o.plain m.plain_is) in
+    record { measured_most = t.0; measured_rows = t.1; expanded_most = t.2 }
 
 pub lookup_counts : (c : SearchCall) (o : SearchOut) → LookupMeets c o → CountsTell c.n c.degree o.answer
 unfolding cleaned_call
-lookup_counts c o m = answered_tells (lookup_answered c o.answer m.answer_is)
+lookup_counts c o m =
+    let t = answered_tells (lookup_answered c o.answer m.answer_is) in
+    record { measured_most = t.0; measured_rows = t.1; expanded_most = t.2 }
 
 pub search_counts_walk : (c : SearchCall) (o : SearchOut) → SearchMeets c o → CountsWalk (walked c) o.answer
-search_counts_walk c o m = answered-walk (search_answered c o.answer m.answer_is)
+search_counts_walk c o m =
+    let w = answered-walk (search_answered c o.answer m.answer_is) in
+    record { expanded_is = λ z. (w.0 z).0; measured_is = λ z. (w.0 z).1; refused_none = w.1 }
 
 pub records_counts_walk : (c : SearchCall) (rs : List Candidate) (o : RecordsOut) → RecordsMeets c rs o → CountsWalk (walked c) o.plain.answer
-records_counts_walk c rs o m = answered-walk (records_answered c rs o.plain m.plain_is)
+records_counts_walk c rs o m =
+    let w = answered-walk (records_answered c rs o.plain m.plain_is) in
+    record { expanded_is = λ z. (w.0 z).0; measured_is = λ z. (w.0 z).1; refused_none = w.1 }
 
 pub lookup_counts_walk : (c : SearchCall) (o : SearchOut) → LookupMeets c o → CountsWalk (walked (cleaned_call c)) o.answer
-lookup_counts_walk c o m = answered-walk (lookup_answered c o.answer m.answer_is)
+lookup_counts_walk c o m =
+    let w = answered-walk (lookup_answered c o.answer m.answer_is) in
+    record { expanded_is = λ z. (w.0 z).0; measured_is = λ z. (w.0 z).1; refused_none = w.1 }
 
 -- a beam of 1, as which 0 acts, is full with the start: nothing is expanded, and one distance is worked out
 beam_one_walked : (c : SearchCall) → c.beam ≤ 1 → walked c ≡ begin (distance_to c) 1 c.start
@@ -296,5 +311,5 @@ entry_leaves = (refl, refl, refl, refl, refl)
 pub leaving_entry_unexpanded : ¬ Mem 1 (walked leaving_call).expanded
 unfolding leaving_call opened
 leaving_entry_unexpanded =
-    search_left_never_expanded leaving_call (search_accepted leaving_call refl) 2 (item 100 1) (there (here refl))
-    (λ m. is_in-none 1 (2 ∷ 3 ∷ []) refl (id_in m)) (is_in-none 1 (2 ∷ 0 ∷ []) refl)
+    stays_unexpanded leaving_call (search_accepted leaving_call refl) 2 (item 100 1) (there (here refl))
+    (λ m. is_in-none 1 (2 ∷ 3 ∷ []) refl (id_in m)) (is_in-none 1 (2 ∷ 0 ∷ []) refl) 2 (lit≤ tt)

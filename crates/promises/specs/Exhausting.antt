@@ -82,41 +82,40 @@ module _ (c : ExhaustiveCall) where
       ids_elim (λ j. listed_first (entry c j) (entry c i) ≡ true) (nearest_to c)
       (λ y m. ap (λ (x : Item). listed_first x (entry c i)) (sym (answer_own y m)) ∙ nearest_before d c.n c.k i h out y m)
 
-  done_held : NearestHeld c (exhaustive_done c).answer.count (exhaustive_done c).ids (exhaustive_done c).dists
-  unfolding exhaustive_done answer
-  done_held =
-      record {
-        count_is = answers_count;
-        ids_are = ids_are;
-        size = ap length ids_are ∙ length-map (nearest_to c) (λ a. a.id);
-        once = rw ids_are answers_once;
-        below = rw ids_are (ids_elim (λ i. i < c.n) (nearest_to c) answers_below);
-        own = dists_are ∙ own ∙ ap (map (λ i. whole (d i))) (sym ids_are);
-        ordered = rw ids_are (ids_ordered d answer_own answers_ordered);
-        left_out = rw ids_are answers_left_out;
-        newer = rw ids_are (λ i h out j m e. listed_higher (entry c j) (entry c i) (answers_left_out i h out j m) (sym e));
-      }
-    where
-      ids_are : take (length (nearest_to c)) (over (ids_of (nearest_to c)) c.ids) ≡ ids_of (nearest_to c)
-      ids_are = over_front (ids_of (nearest_to c)) c.ids (length (nearest_to c)) (length-map (nearest_to c) (λ a. a.id))
-
-      far : Item → Float
-      far a = whole a.dist
-
-      dists_are : take (length (nearest_to c)) (over (map far (nearest_to c)) c.dists) ≡ map far (nearest_to c)
-      dists_are = over_front (map far (nearest_to c)) c.dists (length (nearest_to c)) (length-map (nearest_to c) far)
-
-      own : map far (nearest_to c) ≡ map (λ i. whole (d i)) (ids_of (nearest_to c))
-      own =
-          map_same far (λ a. whole (d a.id)) (nearest_to c) (λ x m. ap (λ (y : Item). whole y.dist) (answer_own x m))
-          ∙ sym (map-map (λ i. whole (d i)) (λ a. a.id) (nearest_to c))
-
 pub exhaustive_held : (c : ExhaustiveCall) (o : ExhaustiveOut) → ExhaustiveMeets c o → o.answer.number ≡ 0
     → NearestHeld c o.answer.count o.ids o.dists
-unfolding exhaustive_out exhaustive_kept refused answer
+unfolding exhaustive_out exhaustive_kept exhaustive_done refused answer
 exhaustive_held c o m accepted =
     let is = exhaustive_is m in
     let passed = said_zero (exhaustive_kept c) (exhaustive_done c) (λ (p : ExhaustiveOut). p.answer.number) (exhaustive_number c) refl
     (ap (λ (p : ExhaustiveOut). p.answer.number) (sym is) ∙ accepted) in
     subst (λ (p : ExhaustiveOut). NearestHeld c p.answer.count p.ids p.dists)
-    (sym (is ∙ by_success (exhaustive_kept c) (exhaustive_done c) (exhaustive_number c) passed)) (done_held c)
+    (sym (is ∙ by_success (exhaustive_kept c) (exhaustive_done c) (exhaustive_number c) passed)) done_held
+  where
+    ids_are : take (length (nearest_to c)) (over (ids_of (nearest_to c)) c.ids) ≡ ids_of (nearest_to c)
+    ids_are = over_front (ids_of (nearest_to c)) c.ids (length (nearest_to c)) (length-map (nearest_to c) (λ a. a.id))
+
+    far : Item → Float
+    far a = whole a.dist
+
+    dists_are : take (length (nearest_to c)) (over (map far (nearest_to c)) c.dists) ≡ map far (nearest_to c)
+    dists_are = over_front (map far (nearest_to c)) c.dists (length (nearest_to c)) (length-map (nearest_to c) far)
+
+    own : map far (nearest_to c) ≡ map (λ i. whole (distance_from c i)) (ids_of (nearest_to c))
+    own =
+        map_same far (λ a. whole (distance_from c a.id)) (nearest_to c) (λ x m. ap (λ (y : Item). whole y.dist) (answer_own c x m))
+        ∙ sym (map-map (λ i. whole (distance_from c i)) (λ a. a.id) (nearest_to c))
+
+    done_held : NearestHeld c (exhaustive_done c).answer.count (exhaustive_done c).ids (exhaustive_done c).dists
+    done_held =
+        record {
+          count_is = answers_count c;
+          ids_are = ids_are;
+          size = ap length ids_are ∙ length-map (nearest_to c) (λ a. a.id);
+          once = rw ids_are (answers_once c);
+          below = rw ids_are (ids_elim (λ i. i < c.n) (nearest_to c) (answers_below c));
+          own = dists_are ∙ own ∙ ap (map (λ i. whole (distance_from c i))) (sym ids_are);
+          ordered = rw ids_are (ids_ordered (distance_from c) (answer_own c) (answers_ordered c));
+          left_out = rw ids_are (answers_left_out c);
+          newer = rw ids_are (λ i h out j m e. listed_higher (entry c j) (entry c i) (answers_left_out c i h out j m) (sym e));
+        }

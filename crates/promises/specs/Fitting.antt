@@ -16,9 +16,8 @@ use Rattle.theory.specs.Rule.{kept_entry, search_rule-mem, mem-search_rule}
 use Rattle.accepted.specs.Chain.{passed, pass}
 use Rattle.accepted.specs.Checks.{Entries, count_good, Degree, degree_good, searched_good, searched-passes}
 use Rattle.accepted.specs.Build.{close-accepted, build_accepted}
-use Rattle.accepted.specs.Search.{SearchAccepted, search_accepted, records_accepted}
+use Rattle.accepted.specs.Search.{SearchAccepted, search_accepted, records_accepted, cleaned-call}
 use Rattle.accepted.specs.Numbers.{search_not_2, search_not_3, search_not_8}
-use Rattle.promises.specs.LookingUp.{lookup_is_search}
 use Rattle.promises.specs.Rows.{closing_keeps_rows, build_keeps_rows}
 
 -- what a search or a lookup gives to fit
@@ -150,7 +149,8 @@ fit_foretells c h some = (number_foretold _ c h some, λ records. number_foretol
 
 -- ---- so a tower that asks once has from `lookup` all that `search` would give it, on every input
 pub fit_lookup : (c : SearchCall) → fit_number (fit_of c) ≡ 0 → lookup_out c ≡ search_out c
-fit_lookup c e = lookup_is_search c (searched_good c.n c.degree c.table (fit_passes (fit_of c) e).2).1
+unfolding lookup_out
+fit_lookup c e = ap search_out (cleaned-call c (searched_good c.n c.degree c.table (fit_passes (fit_of c) e).2).1)
 
 -- ---- tables that close and a whole build write
 

@@ -20,7 +20,7 @@ use Rattle.accepted.specs.Checks.{cleaned-searched, count_low, length-passes}
 use Rattle.accepted.specs.Search.{search_accepted, cleaned-call}
 use Rattle.promises.specs.Outcomes.{lookup_is}
 use Rattle.promises.specs.Searching.{rows_of, distance_to, last_distance}
-use Rattle.promises.specs.Held.{Held, search_held}
+use Rattle.promises.specs.Held.{Held}
 use Rattle.promises.specs.Harmless.{with_table, search_reads}
 
 -- ---- its number: that of a search, with 8 for the length of its table alone
@@ -41,12 +41,19 @@ pub lookup_number_lem : (c : SearchCall) → search_number (cleaned_call c) ≡ 
 unfolding search_number search_number_at search_short cleaned_call lookup_number
 lookup_number_lem c = rw (cleaned-searched c.n c.degree c.table) refl
 
-pub lookup_says : (c : SearchCall) (o : SearchOut) → LookupMeets c o → o.answer.number ≡ lookup_number c
+-- as the number of the search that it is, over the table as cleaned
+pub said : (c : SearchCall) (o : SearchOut) → LookupMeets c o → o.answer.number ≡ search_number (cleaned_call c)
 unfolding lookup_out search_out search_kept search_done refused answer search_answer
-lookup_says c o m =
+said c o m =
     let d = cleaned_call c in
     ap (λ (p : SearchOut). p.answer.number) (lookup_is m)
-    ∙ said_number (search_kept d) (search_done d) (λ (p : SearchOut). p.answer.number) (search_number d) refl refl ∙ lookup_number_lem c
+    ∙ said_number (search_kept d) (search_done d) (λ (p : SearchOut). p.answer.number) (search_number d) refl refl
+
+pub lookup_says : (c : SearchCall) (o : SearchOut) → LookupMeets c o → o.answer.number ≡ lookup_number c
+unfolding search_number search_number_at search_short cleaned_call lookup_number
+lookup_says c o m =
+    let same : search_number (cleaned_call c) ≡ lookup_number c = rw (cleaned-searched c.n c.degree c.table) refl in
+    said c o m ∙ same
 
 -- ---- "and everything lent is then exactly as before the call"
 
@@ -54,15 +61,15 @@ lookup_says c o m =
 abbrev pub kept_by : SearchCall → ℕ → SearchOut
 kept_by c number = record { answer = refused number; words = c.words; floats = c.floats; ids = c.ids; dists = c.dists }
 
-kept_out : (c : SearchCall) → lookup_number c ≢ 0 → lookup_out c ≡ kept_by c (lookup_number c)
+kept_out : (c : SearchCall) → search_number (cleaned_call c) ≢ 0 → lookup_out c ≡ kept_by c (search_number (cleaned_call c))
 unfolding lookup_out search_out search_kept cleaned_call
 kept_out c some =
     let d = cleaned_call c in
-    by_refusal (search_kept d) (search_done d) (search_number d) (λ z. some (sym (lookup_number_lem c) ∙ z)) ∙ ap (kept_by c) (lookup_number_lem c)
+    by_refusal (search_kept d) (search_done d) (search_number d) some
 
 pub lookup_refused : (c : SearchCall) (o : SearchOut) → LookupMeets c o → o.answer.number ≢ 0 → o ≡ kept_by c o.answer.number
 lookup_refused c o m some =
-    let says = lookup_says c o m in
+    let says = said c o m in
     lookup_is m ∙ kept_out c (λ z. some (says ∙ z)) ∙ ap (kept_by c) (sym says)
 
 -- ---- lookup beside search
@@ -89,17 +96,18 @@ stray_bad : (n degree : ℕ) (table : List ℕ) → search_rule n table ≡ fals
 unfolding bad_searched
 stray_bad n degree table stray = rw stray (or-true (bad_length n degree table))
 
-stray_earlier : (c : SearchCall) → search_rule c.n c.table ≡ false → search_number c ≢ 8 → (search_number c ≡ lookup_number c) × (search_number c ≢ 0)
-unfolding search_number search_number_at lookup_number
+stray_earlier : (c : SearchCall) → search_rule c.n c.table ≡ false → search_number c ≢ 8
+    → (search_number c ≡ search_number (cleaned_call c)) × (search_number c ≢ 0)
+unfolding search_number search_number_at cleaned_call
 stray_earlier c stray h =
     let bad = stray_bad c.n c.degree c.table stray in
-    rw bad (earlier _ _ _ _ _ (bad_length c.n c.degree c.table) _ _ (rw bad at h))
+    rw bad (earlier _ _ _ _ _ (bad_searched c.n c.degree (cleaned c.n c.table)) _ _ (rw bad at h))
 
 -- on any table: where search does not say 8
 pub lookup_unless_8 : (c : SearchCall) → search_number c ≢ 8 → lookup_out c ≡ search_out c
-unfolding search_out search_kept
+unfolding lookup_out search_out search_kept
 lookup_unless_8 c h =
-    decide (search_rule c.n c.table) (lookup_is_search c)
+    decide (search_rule c.n c.table) (λ rule. ap search_out (cleaned-call c rule))
     (λ stray. let s = stray_earlier c stray h in
     kept_out c (λ z. s.1 (s.0 ∙ z)) ∙ ap (kept_by c) (sym s.0) ∙ sym (by_refusal (search_kept c) (search_done c) (search_number c) s.1))
 
@@ -123,7 +131,7 @@ ids-cleaned n (w ∷ ws) low = go (ltb w n) refl (ids-cleaned n ws low)
         ap (λ (t : Bool). cond (not t) (w ∷ rest) rest) (ne_eqb w pad (λ q. omega arith)) ∙ ap (λ (l : List ℕ). w ∷ l) again
     go false e again = ap (λ (t : Bool). cond (not t) (pad ∷ rest) rest) (eq-eqb pad pad refl) ∙ again
 
-named-ids : (c : SearchCall) → c.n < pad → (i : ℕ) → ids (rows_of (cleaned_call c) i) ≡ named_by c i
+pub named-ids : (c : SearchCall) → c.n < pad → (i : ℕ) → ids (rows_of (cleaned_call c) i) ≡ named_by c i
 unfolding cleaned_call
 named-ids c low i = ap ids (row-cleaned c.n c.degree c.table i) ∙ ids-cleaned c.n (row c.degree c.table i) low
 
@@ -133,9 +141,10 @@ pub lookup_reads : (c : SearchCall) (table : List ℕ) → length table ≡ leng
     → ((i : ℕ) → i < c.n → named_by c i ≡ named_by (with_table table c) i)
     → lookup_number c ≡ 0
     → lookup_out c ≡ lookup_out (with_table table c)
-unfolding lookup_out cleaned_call
+unfolding lookup_out search_number search_number_at search_short cleaned_call lookup_number
 lookup_reads c table size alike z =
-    let passed = lookup_number_lem c ∙ z in
+    let same : search_number (cleaned_call c) ≡ lookup_number c = rw (cleaned-searched c.n c.degree c.table) refl in
+    let passed = same ∙ z in
     let a = search_accepted (cleaned_call c) passed in
     let low = count_low a.nodes in
     search_reads (cleaned_call c) (cleaned c.n table)
@@ -148,61 +157,9 @@ lookup_reads c table size alike z =
 
 -- ---- demand 3, second sentence, over what a caller holds
 
--- Rows that name the same entries lead to the same entries, by the same ways
-module _ (rows others : ℕ → List ℕ) (start : ℕ) (into : (i j : ℕ) → Mem j (rows i) → j ≢ pad → Mem j (others i)) where
-  carried : {y : ℕ} → Reachable rows start y → Reachable others start y
-  carried from_start = from_start
-  carried (along way on_Row no_pad) = along (carried way) (into _ _ on_Row no_pad) no_pad
-
-  on_carried : {y : ℕ} (way : Reachable rows start y) (e : ℕ) → OnWay (carried way) e → OnWay way e
-  unfolding OnWay carried
-  on_carried from_start e o = o
-  on_carried (along way on_Row no_pad) e (inl q) = inl q
-  on_carried (along way on_Row no_pad) e (inr o) = inr (on_carried way e o)
-
-module _ (rows others : ℕ → List ℕ) (d : ℕ → ℕ) (start : ℕ) (answers : List ℕ) (last : ℕ)
-    (into : (i j : ℕ) → Mem j (rows i) → j ≢ pad → Mem j (others i)) (back : (i j : ℕ) → Mem j (others i) → j ≢ pad → Mem j (rows i)) where
-  tells_alike : (asked : ℕ) → SearchTells rows d start asked answers last → SearchTells others d start asked answers last
-  tells_alike asked t =
-      record {
-        most = t.most;
-        once = t.once;
-        reachable = λ x m. carried rows others start into (t.reachable x m);
-        all_if_fewer = λ h x way. t.all_if_fewer h x (carried others rows start back way);
-        none_nearer = λ x y m h on_Row no_pad. t.none_nearer x y m h (back x y on_Row no_pad) no_pad;
-      }
-
-  excludes_alike : Excludes rows d start answers last → Excludes others d start answers last
-  excludes_alike t y way = go (t y (carried others rows start back way))
-    where
-      go : Mem y answers ⊎ ((e : ℕ) × OnWay (carried others rows start back way) e × (last ≤ d e)) → Mem y answers ⊎ ((e : ℕ) × OnWay way e × (last ≤ d e))
-      go (inl m) = inl m
-      go (inr p) = inr (p.0, on_carried others rows start back way p.0 p.1, p.2)
-
 -- `count` answers stand at the front of `ids` and `dists`. Of them holds all that Held says of a search, over the table as cleaned; and over the rows of the
 -- lent table, in which a word that is no entry counts for nothing, they tell and exclude what demand 3 says
 pub record LookupHeld (c : SearchCall) (count : ℕ) (ids : List ℕ) (dists : List Float) : Type 0 where
   pub held : Held (cleaned_call c) count ids dists
   pub tells : SearchTells (named_by c) (distance_to c) c.start (min c.k (max c.beam 1)) (take count ids) (last_distance (cleaned_call c))
   pub excludes : Excludes (named_by c) (distance_to c) c.start (take count ids) (last_distance (cleaned_call c))
-
-pub lookup_held : (c : SearchCall) (o : SearchOut) → LookupMeets c o → o.answer.number ≡ 0 → LookupHeld c o.answer.count o.ids o.dists
-unfolding lookup_out cleaned_call ids
-lookup_held c o m z =
-    let d = cleaned_call c in
-    let low = count_low (search_accepted d (lookup_number_lem c ∙ sym (lookup_says c o m) ∙ z)).nodes in
-    let h = search_held d o
-    (record { answer_is = m.answer_is; words_is = m.words_is; floats_is = m.floats_is; ids_are = m.ids_are; dists_are = m.dists_are }) z in
-    record {
-      held = h;
-      tells = tells_alike _ _ _ _ _ _ (into low) (back low) _ h.tells;
-      excludes = excludes_alike _ _ _ _ _ _ (into low) (back low) h.excludes;
-    }
-  where
-    into : c.n < pad → (i j : ℕ) → Mem j (rows_of (cleaned_call c) i) → j ≢ pad → Mem j (named_by c i)
-    into low i j on_Row no_pad =
-        subst (λ (l : List ℕ). Mem j l) (named-ids c low i)
-        (mem_keep (λ w. not (eqb w pad)) (rows_of (cleaned_call c) i) on_Row (is_not (eqb j pad) (ne_eqb j pad no_pad)))
-
-    back : c.n < pad → (i j : ℕ) → Mem j (named_by c i) → j ≢ pad → Mem j (rows_of (cleaned_call c) i)
-    back low i j on_Row no_pad = (keep_mem (λ w. not (eqb w pad)) _ (subst (λ (l : List ℕ). Mem j l) (sym (named-ids c low i)) on_Row)).0

@@ -27,8 +27,6 @@ use Rattle.theory.specs.recall.Counted.{total_most, count_most, count_least, cou
 use Rattle.accepted.specs.Outcomes.{by_success, said_zero}
 use Rattle.accepted.specs.Recall.{ReportAccepted, report_accepted, search_of, exhaustive_of}
 use Rattle.promises.specs.Outcomes.{report_is}
-use Rattle.promises.specs.Held.{search_held}
-use Rattle.promises.specs.Exhausting.{exhaustive_held}
 
 -- `found` is at most `asked`, and at most what the searches can answer; each query that is `whole` has all of its own in `found`; and all queries are whole
 -- exactly when all that was asked for was found
@@ -39,19 +37,6 @@ pub record ReportTells (c : ReportCall) (r : Report) : Type 0 where
   pub whole_found : r.whole * min c.k c.n ≤ r.found
   pub all_found : r.whole ≡ r.queries → r.found ≡ r.asked
   pub all_whole : r.found ≡ r.asked → r.whole ≡ r.queries
-
--- a refusal counts nothing
-none_tells : (c : ReportCall) (number : ℕ) → ReportTells c (reported number 0 0 0 0)
-unfolding reported
-none_tells c number =
-    record {
-      found_asked = zero-le;
-      found_beam = zero-le;
-      whole_queries = zero-le;
-      whole_found = omega (arith, zero-mul (min c.k c.n));
-      all_found = λ e. refl;
-      all_whole = λ e. refl;
-    }
 
 module _ (c : ReportCall) (a : ReportAccepted c) where
   -- what the search of query q goes by
@@ -94,18 +79,10 @@ module _ (c : ReportCall) (a : ReportAccepted c) where
   times : (m : ℕ) → length (all_hits c) * m ≡ query_count c * m
   times m = ap (λ (q : ℕ). q * m) hits_length
 
-  done_tells : ReportTells c (report_done c).report
+  -- where as many were found as are asked for, each query has all of its own
+  done_whole : (report_done c).report.found ≡ (report_done c).report.asked → (report_done c).report.whole ≡ (report_done c).report.queries
   unfolding report_done reported asked_each
-  done_tells =
-      record {
-        found_asked = omega (arith, total_most most (all_hits c) few, times most);
-        found_beam = let m = min c.k (max c.beam 1) in
-            omega (arith, total_most m (all_hits c) (each_hit (λ h. h ≤ m) hits_answered), times m);
-        whole_queries = omega (arith, count_most most (all_hits c), hits_length);
-        whole_found = count_least most (all_hits c);
-        all_found = λ e. count-all most (all_hits c) (e ∙ sym hits_length) few ∙ times most;
-        all_whole = λ e. all-count most (all_hits c) (e ∙ sym (times most)) few ∙ hits_length;
-      }
+  done_whole e = all-count most (all_hits c) (e ∙ sym (times most)) few ∙ hits_length
 
   module _ (room : c.n ≤ c.beam) (all : (i : ℕ) → i < c.n → Reachable (row c.degree c.table) c.start i) where
     hits_all : (q : ℕ) → hits_at c q ≡ min c.k c.n
@@ -118,12 +95,36 @@ module _ (c : ReportCall) (a : ReportAccepted c) where
 
 -- by whether it was refused
 pub report_tells : (c : ReportCall) (o : ReportOut) → ReportMeets c o → ReportTells c o.report
-unfolding report_out report_kept by_number
+unfolding report_out report_kept report_done reported asked_each by_number
 report_tells c o m = subst (λ (p : ReportOut). ReportTells c p.report) (sym (report_is m)) (go (report_number c) refl)
   where
+    -- a refusal counts nothing
+    none_tells : (number : ℕ) → ReportTells c (reported number 0 0 0 0)
+    none_tells number =
+        record {
+          found_asked = zero-le;
+          found_beam = zero-le;
+          whole_queries = zero-le;
+          whole_found = omega (arith, zero-mul (min c.k c.n));
+          all_found = λ e. refl;
+          all_whole = λ e. refl;
+        }
+
+    done_tells : ReportAccepted c → ReportTells c (report_done c).report
+    done_tells a =
+        record {
+          found_asked = omega (arith, total_most (most c a) (all_hits c) (few c a), times c a (most c a));
+          found_beam = let m = min c.k (max c.beam 1) in
+              omega (arith, total_most m (all_hits c) (each_hit c a (λ h. h ≤ m) (hits_answered c a)), times c a m);
+          whole_queries = omega (arith, count_most (most c a) (all_hits c), hits_length c a);
+          whole_found = count_least (most c a) (all_hits c);
+          all_found = λ e. count-all (most c a) (all_hits c) (e ∙ sym (hits_length c a)) (few c a) ∙ times c a (most c a);
+          all_whole = done_whole c a;
+        }
+
     go : (k : ℕ) → report_number c ≡ k → ReportTells c (by_number k (report_kept c) (report_done c)).report
-    go zero e = done_tells c (report_accepted c e)
-    go (suc k) e = none_tells c (report_number c)
+    go zero e = done_tells (report_accepted c e)
+    go (suc k) e = none_tells (report_number c)
 
 -- a report that was not refused
 passes : (c : ReportCall) (o : ReportOut) → ReportMeets c o → o.report.number ≡ 0 → (report_number c ≡ 0) × (o ≡ report_done c)
@@ -149,18 +150,6 @@ pub report_all : (c : ReportCall) (o : ReportOut) → ReportMeets c o → o.repo
     → (o.report.found ≡ o.report.asked) × (o.report.whole ≡ o.report.queries)
 report_all c o m e room all =
     let p = passes c o m e in
-    let found = subst (λ (q : ReportOut). q.report.found ≡ q.report.asked) (sym p.1) (done_all c (report_accepted c p.0) room all) in
-    (found, (report_tells c o m).all_whole found)
-
--- what is counted of query q is what a search and an exhaustive search of it have in common, whatever room and outputs they are lent
-pub report_by_calls : (c : ReportCall) (q : ℕ) (words : List ℕ) (floats : List Float) (ids near : List ℕ) (dists nearDists : List Float)
-    (o : SearchOut) (e : ExhaustiveOut) → SearchMeets (search_of c (vector c.dim c.queries q) words floats ids dists) o
-    → ExhaustiveMeets (exhaustive_of c (vector c.dim c.queries q) near nearDists) e
-    → o.answer.number ≡ 0
-    → e.answer.number ≡ 0
-    → hits_at c q ≡ in_both (take o.answer.count o.ids) (take e.answer.count e.ids)
-unfolding hits_at hits found_ids found nearest_to
-report_by_calls c q words floats ids near dists nearDists o e s x p z =
-    let query = vector c.dim c.queries q in
-    ap₂ in_both (sym (search_held (search_of c query words floats ids dists) o s p).ids_are)
-    (sym (exhaustive_held (exhaustive_of c query near nearDists) e x z).ids_are)
+    let found = done_all c (report_accepted c p.0) room all in
+    subst (λ (q : ReportOut). (q.report.found ≡ q.report.asked) × (q.report.whole ≡ q.report.queries)) (sym p.1)
+    (found, done_whole c (report_accepted c p.0) found)

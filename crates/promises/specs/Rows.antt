@@ -102,7 +102,8 @@ after-accepted : (o : OpenCall) → open_number o ≡ 0 → (n degree : ℕ) (ta
     → bad_table n (slack degree) table ≡ false
 after-accepted o e n degree table p q a =
     ap₂ (λ (m d : ℕ). bad_table m (slack d) table) p q
-    ∙ table_passes o.n (slack o.degree) table (count_low (open_accepted o e).nodes) (batches_keep_rows o e table a)
+    ∙ table_passes o.n (slack o.degree) table (count_low (open_accepted o e).nodes)
+    (after o.n o.degree (open_out o).wide table (open_keeps_rows o e) a)
 
 pub batches_go_on : (o : OpenCall) → open_number o ≡ 0 → (c : BatchCall) → c.n ≡ o.n → c.params.degree ≡ o.degree
     → AfterBatches o.n o.degree (open_out o).wide c.wide → batch_number c ≢ 8

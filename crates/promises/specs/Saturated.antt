@@ -90,16 +90,19 @@ done_by c dist =
       dists = over (map (λ x. whole x.dist) l) c.dists;
     }
 
--- any call, refused or not: the same answers, counts and number, and everything lent is left the same
-pub search_silent : (c : SearchCall) (vectors : List ℕ) → SaidAlike c vectors → search_out c ≡ search_out (with_vectors vectors c)
+-- as many samples, and the same distances from the query
+as_far : (c : SearchCall) (vectors : List ℕ) → length c.vectors ≡ length vectors → from_query c.dim c.vectors c.query ≡ from_query c.dim vectors c.query
+    → search_out c ≡ search_out (with_vectors vectors c)
 unfolding search_out search_kept search_done found walked found_ids found_dists done_by search_number search_number_at bad_vectors search_short
-search_silent c vectors h =
-    let far : from_query c.dim c.vectors c.query ≡ from_query c.dim vectors c.query =
-    λ t i. query_silent c.dim c.vectors vectors c.query h.size h.alike i t in
-    let number : search_number c ≡ search_number (with_vectors vectors c) = rw h.size refl in
+as_far c vectors size far =
+    let number : search_number c ≡ search_number (with_vectors vectors c) = rw size refl in
     ap₂ (λ (k : ℕ) (d : ℕ → ℕ).
     by_number k (record { answer = refused k; words = c.words; floats = c.floats; ids = c.ids; dists = c.dists }) (done_by c d)) number far
 
+-- any call, refused or not: the same answers, counts and number, and everything lent is left the same
+pub search_silent : (c : SearchCall) (vectors : List ℕ) → SaidAlike c vectors → search_out c ≡ search_out (with_vectors vectors c)
+search_silent c vectors h = as_far c vectors h.size (λ t i. query_silent c.dim c.vectors vectors c.query h.size h.alike i t)
+
 pub lookup_silent : (c : SearchCall) (vectors : List ℕ) → SaidAlike c vectors → lookup_out c ≡ lookup_out (with_vectors vectors c)
 unfolding lookup_out cleaned_call
-lookup_silent c vectors h = search_silent (cleaned_call c) vectors (record { size = h.size; alike = h.alike })
+lookup_silent c vectors h = as_far (cleaned_call c) vectors h.size (λ t i. query_silent c.dim c.vectors vectors c.query h.size h.alike i t)

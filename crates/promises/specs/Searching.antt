@@ -47,12 +47,16 @@ module _ (c : SearchCall) (a : SearchAccepted c) where
   unfolding found answers ranked searched
   found_is = refl
 
-  pub search_tells : SearchTells (row c.degree c.table) (from_query c.dim c.vectors c.query) c.start (min c.k (max c.beam 1))
-      (found_ids c) (last_distance c)
+  -- over the ground of the call
+  pub told : SearchTells rows d c.start (min c.k beam) (found_ids c) (last_distance c)
   unfolding found_ids best
-  search_tells =
+  told =
       subst (λ (l : List Item). SearchTells rows d c.start (min c.k beam) (ids_of l) (best l).dist) (sym found_is)
       (stopped_tells g end (greedy_done g) c.k)
+
+  pub search_tells : SearchTells (row c.degree c.table) (from_query c.dim c.vectors c.query) c.start (min c.k (max c.beam 1))
+      (found_ids c) (last_distance c)
+  search_tells = told
 
   pub search_excludes : Excludes (row c.degree c.table) (from_query c.dim c.vectors c.query) c.start (found_ids c) (last_distance c)
   unfolding found_ids best
@@ -67,13 +71,8 @@ module _ (c : SearchCall) (a : SearchAccepted c) where
   pub search_ordered : Pairwise (λ (x y : Item). listed_first x y ≡ true) (found c)
   search_ordered = ordered_pairwise search_order
 
-  -- "cut to k": what the search holds at its end and does not answer is listed after every answer
-  pub search_cut : (x y : Item) → Mem x (searched (from_query c.dim c.vectors c.query) (row c.degree c.table) c.n c.beam c.start).work
-      → ¬ Mem x (found c)
-      → Mem y (found c)
-      → listed_first y x ≡ true
-  unfolding searched
-  search_cut x y held out answered = go (split (take c.k sorted) (subst (λ (l : List Item). Mem x l) (sym parts) (mem_sort listed_first end.work held)))
+  beyond : (x y : Item) → Mem x end.work → ¬ Mem x (found c) → Mem y (found c) → listed_first y x ≡ true
+  beyond x y held out answered = go (split (take c.k sorted) (subst (λ (l : List Item). Mem x l) (sym parts) (mem_sort listed_first end.work held)))
     where
       sorted : List Item
       sorted = sort listed_first end.work
@@ -88,17 +87,26 @@ module _ (c : SearchCall) (a : SearchAccepted c) where
           (subst (λ (l : List Item). Ordered listed_first l) (sym parts) (stopped_ordered g end (greedy_done g))) y x
           (subst (λ (l : List Item). Mem y l) found_is answered) m
 
+  -- "cut to k": what the search holds at its end and does not answer is listed after every answer
+  pub search_cut : (x y : Item) → Mem x (searched (from_query c.dim c.vectors c.query) (row c.degree c.table) c.n c.beam c.start).work
+      → ¬ Mem x (found c)
+      → Mem y (found c)
+      → listed_first y x ≡ true
+  unfolding searched
+  search_cut x y held out answered = beyond x y held out answered
+
   -- so of equals the newer are answered: what is not answered and is as far as an answer has a lower id
   pub search_newer : (x y : Item) → Mem x (searched (from_query c.dim c.vectors c.query) (row c.degree c.table) c.n c.beam c.start).work
       → ¬ Mem x (found c)
       → Mem y (found c)
       → x.dist ≡ y.dist
       → x.id < y.id
-  search_newer x y held out answered e = listed_higher y x (search_cut x y held out answered) (sym e)
+  unfolding searched
+  search_newer x y held out answered e = listed_higher y x (beyond x y held out answered) (sym e)
 
 -- where k is at least the beam, a beam of 0 read as 1, the beam's number is asked for
 pub search_claim : (c : SearchCall) → search_number c ≡ 0 → max c.beam 1 ≤ c.k
     → SearchTells (row c.degree c.table) (from_query c.dim c.vectors c.query) c.start (max c.beam 1) (found_ids c) (last_distance c)
 search_claim c e enough =
     subst (λ (b : ℕ). SearchTells (row c.degree c.table) (from_query c.dim c.vectors c.query) c.start b (found_ids c) (last_distance c))
-    (omega arith) (search_tells c (search_accepted c e))
+    (omega arith) (told c (search_accepted c e))

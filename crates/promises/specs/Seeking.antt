@@ -26,7 +26,7 @@ use Rattle.theory.specs.seek.Samples.{text_bytes, query_length}
 use Rattle.theory.specs.search.Tells.{SearchTells, Excludes}
 use Rattle.accepted.specs.Outcomes.{by_success}
 use Rattle.accepted.specs.Search.{SearchAccepted, seek-accepted, search_answers}
-use Rattle.promises.specs.Searching.{rows_of, distance_to, last_distance, search_tells, search_excludes, search_ordered}
+use Rattle.promises.specs.Searching.{rows_of, distance_to, last_distance, told, search_excludes, search_ordered}
 use Rattle.theory.specs.seek.Decimals.{decimal_reads_back}
 use Rattle.theory.specs.seek.Printing.{count_read, items_read, Small, items_read_lem}
 
@@ -113,7 +113,7 @@ module _ (text : List ℕ) (z : seek_number text ≡ 0) where
 
   few : length (found call) ≤ 256
   unfolding found_ids
-  few = omega (arith, (search_tells call accepted).most, ids-length (found call), accepted.beam_few)
+  few = omega (arith, (told call accepted).most, ids-length (found call), accepted.beam_few)
 
   printed : seek text ≡ print_found (found call)
   unfolding seek call
@@ -163,6 +163,6 @@ seek-held text z =
       ordered = subst (λ (l : List Item). Pairwise (λ (x y : Item). listed_first x y ≡ true) l) (sym items) (search_ordered c a);
       last = ap₂ (λ (l : List Item) (k : ℕ). (get_or l (k - 1) nobody).dist) items count;
       tells = subst (λ (l : List Item). SearchTells (rows_of c) (distance_to c) c.start (min c.k (max c.beam 1)) (ids_of l) (last_distance c)) (sym items)
-          (search_tells c a);
+          (told c a);
       excludes = subst (λ (l : List Item). Excludes (rows_of c) (distance_to c) c.start (ids_of l) (last_distance c)) (sym items) (search_excludes c a);
     }

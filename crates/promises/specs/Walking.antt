@@ -27,20 +27,17 @@ pub record Walked (walks : List Walk) (nodes extra most : ℕ) : Type 0 where
   pub epoch_most : epoch_after 1 walks ≤ 1 + most * 17
   pub epoch_fits : epoch_after 1 walks < epoch_end
 
-walked : (walks : List Walk) (nodes extra most : ℕ) → length walks ≡ nodes + nodes * extra → nodes ≤ most → most ≤ 65536 → extra ≤ 16
-    → Walked walks nodes extra most
-walked walks nodes extra most e h low k =
-    let each : nodes * (1 + extra) ≡ nodes + nodes * extra = mul-add nodes 1 extra ∙ ap (λ (m : ℕ). m + nodes * extra) (mul-one nodes) in
-    let all = walks_most h k in
-    record { count = omega arith; few = omega arith; epoch_most = omega arith; epoch_fits = omega arith }
+from_each : (nodes extra : ℕ) → nodes * (1 + extra) ≡ nodes + nodes * extra
+from_each nodes extra = mul-add nodes 1 extra ∙ ap (λ (m : ℕ). m + nodes * extra) (mul-one nodes)
 
 pub batch-walked : (c : BatchCall) → batch_number c ≡ 0 → Walked (batch_walks_of c) (length c.nodes) c.params.extra 256
 batch-walked c e =
     let a = batch-accepted c e in
     let size = a.seeds.size in
     let many = batch-walks c.wide c.start c.params.extra c.nodes c.seeds size in
-    walked (batch_walks_of c) (length c.nodes) c.params.extra 256 (omega arith) a.nodes_few (omega arith)
-    (extra_good c.n c.params.extra a.seeds.limits).0
+    let each = from_each (length c.nodes) c.params.extra in
+    let all = walks_most a.nodes_few (extra_good c.n c.params.extra a.seeds.limits).0 in
+    record { count = omega arith; few = omega arith; epoch_most = omega arith; epoch_fits = omega arith }
 
 pub build_walked : (c : BuildCall) → build_number c ≡ 0 → Walked (build_walks_of c) c.n c.params.extra 65536
 build_walked c e =
@@ -51,8 +48,9 @@ build_walked c e =
     let order = a.order_is in
     let same : length c.order * c.params.extra ≡ c.n * c.params.extra = ap (λ (k : ℕ). k * c.params.extra) order in
     let many = run-walks g c.start c.params.extra (length c.order) c.order c.seeds opened (omega arith) (omega arith) in
-    walked (build_walks_of c) c.n c.params.extra 65536 (omega arith) a.entries.nodes (omega arith)
-    (extra_good c.n c.params.extra a.seeds.limits).0
+    let each = from_each c.n c.params.extra in
+    let all = walks_most a.entries.nodes (extra_good c.n c.params.extra a.seeds.limits).0 in
+    record { count = omega arith; few = omega arith; epoch_most = omega arith; epoch_fits = omega arith }
 
 -- two nodes with two seeds each, from start 9: in this order
 pub two_nodes : (wide : List ℕ) → batch_walks wide 9 (3 ∷ 5 ∷ []) (groups 2 2 (1 ∷ 2 ∷ 7 ∷ 4 ∷ []))

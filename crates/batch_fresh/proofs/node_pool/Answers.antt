@@ -1,17 +1,14 @@
 -- `node_pool` meets its contract. No stamp is the node's yet, so the pool begins empty; the part lent as the query is the node's vector.
 use mathlib.Core.Path.{refl, subst}
-use Prim.Native.Nat.{ℕ, ◌+◌, ◌*◌, ◌≤◌}
+use Prim.Native.Nat.{ℕ, ◌+◌}
 use native.Mathlib.Omega.{arith}
 use mathlib.Core.List.{List}
-use lib.ListN.{length}
-use borrow.Author.Rules.{rules}
 use Rattle.definition.specs.Metric.{from_query}
 use Rattle.metric.specs.Laws.{vector_in, lent_vector, lent_length}
 use Rattle.given.specs.Given.{given, degree-slack}
 use Rattle.batch_pool.specs.Regions.{stage, Grown, pooled_ids}
 use Rattle.batch_fresh.specs.Made.{plan_of}
 use Rattle.batch_fresh.proofs.Making.{holding_blank}
-use Rattle.laws.specs.Tables.{row_fits}
 use Rattle.batch_fresh.proofs.node_pool.Goals as goal
 
 pub collect_pool-requires : goal.collect_pool-requires

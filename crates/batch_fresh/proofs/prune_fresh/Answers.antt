@@ -1,5 +1,4 @@
 -- `prune_fresh` meets its contract: the pool and the factors are lent to pruning, then the row's place to its writer.
-use borrow.Author.Rules.{rules}
 use Rattle.batch_fresh.proofs.Pruning.{lent_measurable, lent_apart, lent_factors, fresh}
 use Rattle.batch_fresh.proofs.prune_fresh.Goals as goal
 

@@ -1,9 +1,7 @@
 -- `add_once`. An id is in the pool when its mark is the stamp; if not, there is room for it.
-use Prim.Native.Nat.{◌<◌}
 use native.Mathlib.Omega.{arith}
 use lib.ListN.{length-set}
 use Rattle.batch_pool.proofs.Adding.{pooled_room, added_seen, added_new}
-use borrow.Author.Rules.{rules}
 use Rattle.batch_pool.proofs.add_once.Goals as goal
 
 pub returns-then-pool-mark : goal.returns-then-pool-mark

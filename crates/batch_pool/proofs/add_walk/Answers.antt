@@ -1,7 +1,6 @@
 -- `add_walk`. The walk leaves the pool alone, and the words hold what it visited.
 use mathlib.Core.Path.{refl}
 use Rattle.batch_pool.proofs.Growing.{walked, grown_walk}
-use borrow.Author.Rules.{rules}
 use Rattle.batch_pool.proofs.add_walk.Goals as goal
 
 pub greedy-s-requires : goal.greedy-s-requires

@@ -1,9 +1,7 @@
 -- `collect_pool`. The row, the walk from the start and those from the seeds, one after another. The row goes into the pool's region, lent at the layout's
 -- offsets.
-use Prim.Native.Nat.{◌+◌, ◌<◌}
 use native.Mathlib.Omega.{arith}
-use lib.ListN.{length}
-use Rattle.theory.specs.build.Walks.{node_walks_lem, epoch_end}
+use Rattle.theory.specs.build.Walks.{node_walks_lem}
 use Rattle.batch_pool.proofs.Growing.{grown_part, grown_pool}
 use Rattle.batch_pool.proofs.collect_pool.Goals as goal
 

@@ -15,5 +15,6 @@ overflow_mul-a0 c = record { fits = below (omega arith) (omega arith) }
 pub returns : goal.returns
 returns c =
     c.wrapping_add_u64.ensures.value
-    ∙ ap (λ (m : ℕ). ((c.args.a % 4294967296) * (c.args.b % 4294967296) + m % 4294967296 * 4294967296) % 18446744073709551616) c.wrapping_add_u64-mid.ensures.value
+    ∙ ap (λ (m : ℕ). ((c.args.a % 4294967296) * (c.args.b % 4294967296) + m % 4294967296 * 4294967296) % 18446744073709551616)
+    c.wrapping_add_u64-mid.ensures.value
     ∙ product c.args.a c.args.b
