@@ -1,11 +1,12 @@
 -- The pool grows: by a row, by a walk, by one walk after another. A walk leaves the pool alone, and what it visited, with its distances, goes into it.
 use mathlib.Core.Path.{◌≡◌, refl, sym, ap, subst}
 use mathlib.Core.List.{List, [], ◌++◌, map}
-use Prim.Native.Nat.{ℕ, ◌+◌, ◌*◌, ◌≤◌, ◌<◌}
+use Prim.Native.Nat.{ℕ, ◌+◌, ◌-◌, ◌*◌, ◌≤◌, ◌<◌}
 use native.Mathlib.Numerals.{add-one}
 use native.Mathlib.Omega.{arith}
 use lib.ListN.{length, get_or, take}
 use lib.Seq.{take-suc, take_all}
+use borrow.Rule.Slice.PartMut.{put_mid}
 use Rattle.definition.specs.Lists.{joined}
 use Rattle.definition.specs.Tables.{ids}
 use Rattle.laws.specs.Members.{joined_snoc}
@@ -103,6 +104,14 @@ module _ (p : Plan) (d : ℕ → ℕ) where
         added = b;
         kept = within_wider (pool_at p.n) (pool_end p.n) s.words _ w 0 (pool_end p.n) (omega arith) (omega arith);
       }
+
+  -- the same, of a part that was lent by its bounds
+  pub grown_part : {epoch stamp : ℕ} {words : List ℕ} (h : Holding p epoch (stage words stamp 0)) {from end : ℕ} (a : from ≡ pool_at p.n) (b : end ≡ pool_end p.n)
+      {pool : List ℕ} (same : length pool ≡ length (part from end words)) {r : ℕ} {xs : List ℕ}
+      → Added p.n (pool_as (part from end words) stamp 0) (pool_as pool stamp r) xs (λ f. f ≡ d)
+      → Grown p epoch (stage words stamp 0) (stage (put_mid from (end - from) words pool) stamp r) xs d
+  grown_part {epoch} {stamp} {words} h a b {pool} same {r} {xs} added =
+      rw (a, b) (grown_row epoch (stage words stamp 0) h pool (rw (a, b) at same) r xs (rw (a, b) at added))
 
 -- ---- the lists of several walks
 pub joined_next : (f : ℕ → List ℕ) (l : List ℕ) (k : ℕ) → k < length l → joined (map f (take (k + 1) l)) ≡ joined (map f (take k l)) ++ f (get_or l k 0)

@@ -180,6 +180,10 @@ module _ {g : Given} {l : Listing} {before : Held} (r : RunsReady g l before) wh
     pub end_later : at < end
     end_later = omega arith
 
+    -- the run ends after it begins, within the order
+    pub nodes_fit : (at < end) × (end ≤ g.n) × (end ≤ length l.nodes)
+    nodes_fit = let o = r.order_is in (end_later, end_most, omega arith)
+
     -- the seeds of the run, as they are lent
     seeds_run : end * extra ≡ at * extra + (end - at) * extra
     seeds_run =

@@ -1,5 +1,6 @@
 -- The groups of seeds: one group seed by seed, the groups one by one, and their number by a division.
-use Rattle.std.specs.Prelude.{◌≡◌, ℕ, zero, suc, ◌+◌, ◌-◌, ◌*◌, ◌/◌, ◌%◌, ◌<◌, ◌≤◌, Bool, true, false, not, ◌&&◌, ◌||◌, List, [], ◌∷◌, length, take, drop, ◌==◌, ◌≢◌, nat_eq, nat_lt, slice_index, slice_index_or}
+use Rattle.std.specs.Prelude.{◌≡◌, ℕ, zero, suc, ◌+◌, ◌-◌, ◌*◌, ◌/◌, ◌%◌, ◌<◌, ◌≤◌, Bool, true, false, not, ◌&&◌, ◌||◌, List, [], ◌∷◌, length, take}
+use Rattle.std.specs.Prelude.{drop, ◌==◌, ◌≢◌, nat_eq, nat_lt, slice_index, slice_index_or}
 use Rattle.std.proofs.Math.Path.{refl, sym, ap}
 use Rattle.std.proofs.Common.{◌∙◌, div-add-mod', mul-div_cancel, drop_of_length-le, drop-cons}
 use Rattle.std.proofs.Math.Bool.{and-false}
@@ -67,7 +68,8 @@ module _ (n start extra count : ℕ) (seeds : List ℕ) where
 
   module _ (g : ℕ) (w : Grouped n start extra count seeds g) where
     groups_step : g < count → each (good_group n start) (groups (count - g) extra (drop (g * extra) seeds))
-        ≡ (good_group n start (take extra (drop (g * extra) seeds)) && each (good_group n start) (groups (count - (g + 1)) extra (drop ((g + 1) * extra) seeds)))
+        ≡ (good_group n start (take extra (drop (g * extra) seeds))
+        && each (good_group n start) (groups (count - (g + 1)) extra (drop ((g + 1) * extra) seeds)))
     unfolding each groups
     groups_step h =
         let k : count - g ≡ suc (count - (g + 1)) = omega arith in

@@ -76,7 +76,8 @@ module _ (n dim : ℕ) (vectors : List ℕ) (params : Params) (wide : List ℕ) 
       ∷ (8, wrong_length n params.degree closed) ∷ (10, build_short n words floats) ∷ [])
 
 module _ {n dim : ℕ} {vectors : List ℕ} {params : Params} {wide : List ℕ} {closed words floats r : ℕ} where
-  pub close_numbered : r ≡ number_of (close_tests n dim vectors params wide closed words floats) → CloseNumbered n dim vectors params wide closed words floats r
+  pub close_numbered : r ≡ number_of (close_tests n dim vectors params wide closed words floats)
+      → CloseNumbered n dim vectors params wide closed words floats r
   unfolding close_number number_of
   close_numbered e = record {
     is = λ to ws fs p q s. rw (each_part 8, ← length_is n params.degree to closed p, room_is n ws fs words floats q s) e;

@@ -7,7 +7,7 @@ use Rattle.definition.specs.declared.Candidate.{Candidate}
 use Rattle.definition.specs.Refusals.{SearchCall, bad_degree, bad_beam, bad_start, bad_searched, short, most_answers, search_short}
 use Rattle.definition.specs.Refusals.{search_number_at, search_number, records_number}
 use Rattle.checks.specs.Lengths.{search_short_by}
-use Rattle.checks_number.specs.Tests.{Tests, number_of, holds_at, numbered, cleared}
+use Rattle.checks_number.specs.Tests.{Tests, number_of, holds_at, numbered, cleared, cleared_rest}
 use Rattle.checks_number.specs.Shared.{entry_tests}
 
 abbrev pub call_of : ℕ → ℕ → List ℕ → ℕ → ℕ → ℕ → ℕ → List ℕ → List ℕ → List ℕ → List Float → List ℕ → List Float → SearchCall
@@ -46,6 +46,11 @@ pub limits_clear : (n dim : ℕ) (vectors : List ℕ) (degree beam start : ℕ) 
     → (i : ℕ) → holds_at (limit_tests n dim vectors degree beam start) i ≡ false
 unfolding numbered
 limits_clear n dim vectors degree beam start z = cleared (limit_tests n dim vectors degree beam start) refl z
+
+pub limits_past : (n dim : ℕ) (vectors : List ℕ) (degree beam start : ℕ) (us : Tests) {r : ℕ} → number_of (limit_tests n dim vectors degree beam start) ≡ 0
+    → r ≡ number_of us → r ≡ number_of (limit_tests n dim vectors degree beam start ++ us)
+unfolding numbered
+limits_past n dim vectors degree beam start us z e = cleared_rest (limit_tests n dim vectors degree beam start) us refl z e
 
 module _ (n dim : ℕ) (vectors : List ℕ) (degree beam k start : ℕ) (table query : List ℕ) (words floats ids dists run : ℕ) where
   -- r is the number of every search that is lent these lengths, with `run` records

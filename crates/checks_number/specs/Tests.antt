@@ -100,3 +100,14 @@ early (t ∷ ts) us e f =
     decide t.1
     (λ h. e ∙ stop t.0 t.1 (number_of ts) h ∙ sym (stop t.0 t.1 (number_of (ts ++ us)) h))
     (λ h. early ts us (e ∙ past t.0 t.1 (number_of ts) h) f ∙ sym (past t.0 t.1 (number_of (ts ++ us)) h))
+
+-- where it is 0, the number of all is that of the others
+pub cleared_rest : (ts us : Tests) {r : ℕ} → numbered ts ≡ true → number_of ts ≡ 0 → r ≡ number_of us → r ≡ number_of (ts ++ us)
+unfolding number_of numbered
+cleared_rest [] us p z e = e
+cleared_rest (t ∷ ts) us p z e =
+    let b = and_both (ltb 0 t.0) (numbered ts) p in
+    let some = ltb-true 0 t.0 b.0 in
+    let k : t.0 ≡ suc (t.0 - 1) = omega arith in
+    let s = passed (t.0 - 1) t.1 (number_of ts) (subst (λ (k : ℕ). (k when t.1 else number_of ts) ≡ 0) k z) in
+    cleared_rest ts us b.1 s.1 e ∙ sym (past t.0 t.1 (number_of (ts ++ us)) s.0)

@@ -85,7 +85,8 @@ module _ (n degree s₀ : ℕ) (o : List ℕ) where
         let len : length row ≡ end - at = ap length is ∙ length-row n degree i (advance s) ∙ omega arith in
         let rest = rows_from n degree (suc i) (n - (i + 1)) (advance s) in
         let k : Writing d.words o out at (row ++ rest.words) = subst (λ (z : List ℕ). Writing d.words o out at (z ++ rest.words)) (sym is) g.words in
-        let p : Filling d o (put_mid at (end - at) out row) end rest = record { words = put_part d.words o out row at end _ (omega arith) l len k; state_is = g.state_is } in
+        let p : Filling d o (put_mid at (end - at) out row) end rest =
+        record { words = put_part d.words o out row at end _ (omega arith) l len k; state_is = g.state_is } in
         subst (λ (m : ℕ). Filling d o (put_mid at (end - at) out row) m (rows_from n degree (i + 1) (n - (i + 1)) (advance s))) e
         (subst (λ (m : ℕ). Filling d o (put_mid at (end - at) out row) end (rows_from n degree m (n - (i + 1)) (advance s))) (sym (add-one i)) p)
 

@@ -1,13 +1,10 @@
 -- One query: its walk may be made, and what that and the exhaustive search leave may be marked and counted; what is counted are the definition's hits. The
 -- marks are left so that the next query may follow.
-use Prim.Native.Nat.{ℕ, ◌+◌, ◌-◌, ◌≤◌, ◌<◌, zero-le}
-use native.Mathlib.Nat.{zero-add}
-use native.Mathlib.Omega.{arith}
-use mathlib.Core.Path.{◌≡◌, sym, ap, ap₂, ◌∙◌, subst}
-use mathlib.Core.List.{List, Memᴰ as Mem}
+use Rattle.std.proofs.Common.{ℕ, ◌+◌, ◌-◌, ◌≤◌, ◌<◌, zero-le, zero-add, arith, ◌≡◌, sym, ap, ap₂, ◌∙◌, subst, List, Float, length, get_or, take}
+use Rattle.std.proofs.Common.{drop, length-append, length-take}
+use mathlib.Core.List.{Memᴰ as Mem}
 use borrow.Rule.Slice.PartMut.{put_mid}
-use lib.Ieee.{Float}
-use lib.ListN.{length, get_or, take, drop, length-append, length-map, length-take, get_or-append}
+use Rattle.std.proofs.Math.ListN.{length-map, get_or-append}
 use Rattle.definition.specs.Lists.{over}
 use Rattle.definition.specs.Beam.{Item, nobody}
 use Rattle.definition.specs.Recall.{in_both, hits}

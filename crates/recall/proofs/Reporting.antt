@@ -1,9 +1,5 @@
 -- A report, from the tally of its queries and its room left zero; and the public statement from its number.
-use Prim.Native.Nat.{ℕ, ◌*◌}
-use native.Mathlib.Omega.{arith}
-use mathlib.Core.Path.{◌≡◌, refl, sym, ap, ◌∙◌}
-use mathlib.Core.List.{List, []}
-use lib.ListN.{length}
+use Rattle.std.proofs.Common.{ℕ, ◌*◌, arith, ◌≡◌, refl, sym, ap, ◌∙◌, List, [], length}
 use Rattle.definition.specs.declared.Report.{Report}
 use Rattle.definition.specs.Lists.{cleared}
 use Rattle.definition.specs.Floats.{nought}

@@ -1,12 +1,6 @@
 -- The loop over the queries: query q is lent as its part of the bytes, and one query more is one number more, added and counted. No mark is above the epoch,
 -- which is two further with each query.
-use Prim.Native.Nat.{ℕ, ◌+◌, ◌-◌, ◌*◌, ◌≤◌, ◌<◌}
-use native.Mathlib.Omega.{arith}
-use mathlib.Core.Path.{◌≡◌, refl, sym, ap, ◌∙◌}
-use mathlib.Core.Logic.{◌⊎◌, inl, inr}
-use mathlib.Core.List.{List, [], map}
-use lib.Ieee.{Float}
-use lib.ListN.{length, take, drop}
+use Rattle.std.proofs.Common.{ℕ, ◌+◌, ◌-◌, ◌*◌, ◌≤◌, ◌<◌, arith, ◌≡◌, refl, sym, ap, ◌∙◌, ◌⊎◌, inl, inr, List, [], map, Float, length, take, drop}
 use Rattle.definition.specs.Lists.{upto, run, total, keep}
 use Rattle.definition.specs.Metric.{vector, from_query}
 use Rattle.definition.specs.Tables.{row}

@@ -1,5 +1,5 @@
 -- The public statement, from the number of a search with the records beside it, what an accepted one leaves, and the copy of its answers.
-use Rattle.std.specs.Prelude.{◌≡◌, ℕ, ◌+◌, ◌≤◌, Float}
+use Rattle.std.specs.Prelude.{◌≡◌, ℕ, ◌≤◌, Float}
 use Rattle.std.proofs.Math.Path.{sym, ap, subst}
 use Rattle.std.proofs.Common.{ap₂, ◌∙◌, arith, take_all}
 use mathlib.Core.List.{List, ◌++◌, map}

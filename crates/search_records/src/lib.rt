@@ -1,5 +1,5 @@
-// The answers of a search also as a lent run of records, beside its two outputs.
-// No function over a `&mut [Candidate]` is covered by the borrow checker, so the two here are thin and their proofs walk the code step by step.
+// The answers of a search also as a lent run of records, beside its two outputs. The copy of them is a function of its own, so that its loop is proved apart
+// from the search.
 #![tactic(auto)]
 
 ghost use Rattle.std.specs.Prelude.{◌≡◌, ◌≤◌, length};

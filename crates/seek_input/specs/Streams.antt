@@ -2,19 +2,22 @@
 use Rattle.std.specs.Prelude.{◌≡◌, refl, Bool, true, false, List, [], ◌++◌, ℕ, ◌-◌, ◌≤◌, ◌<◌, ltb, length, take}
 use Rattle.std.proofs.Common.{sym, ◌∙◌, append-nil, arith, ltb-true, ltb-false, length-append}
 use Rattle.std.proofs.Math.Nat.{sub-zero}
-use Rattle.io.specs.Counts.{IsPrefixLen}
 use Rattle.definition.specs.Seek.{most_input, seek}
 use Rattle.laws.specs.Parts.{part}
 use Rattle.seek_print.specs.Printed.{Put}
 use Rattle.seek_answer.specs.Answering.{seek_long}
 
+-- `count` bytes at the start of a buffer: no more than it has
+abbrev pub IsFront : ℕ → List ℕ → Type 0
+IsFront count text = (count ≤ length text) × (count ≡ length (take count text))
+
 -- `count` bytes at the start of a buffer were read. If nothing of the input is left where the buffer is not full, then the answer is that of the whole input,
 -- whatever is left of it: a full buffer is a text that is too long, however it goes on
 pub record TextRead (count : ℕ) (text : List ℕ) : Type 0 where
-  pub counts : IsPrefixLen count text
+  pub counts : IsFront count text
   pub whole : (rest : List ℕ) → (count < length text → rest ≡ []) → seek (take count text ++ rest) ≡ seek (take count text)
 
-pub text_read : (count : ℕ) (text : List ℕ) → most_input < length text → IsPrefixLen count text → TextRead count text
+pub text_read : (count : ℕ) (text : List ℕ) → most_input < length text → IsFront count text → TextRead count text
 text_read count text more counts = record { counts = counts; whole = λ rest ends. go rest ends (ltb count (length text)) refl }
   where
     go : (rest : List ℕ) → (count < length text → rest ≡ []) → (p : Bool) → ltb count (length text) ≡ p

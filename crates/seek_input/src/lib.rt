@@ -1,34 +1,57 @@
 // `seek` from standard input to standard output.
-// No contract can say that the bytes read are those of standard input, or that the bytes handed to `write` arrive: of `read` and `write` it is only assumed
-// how many bytes a call may move, and it is the loop of io::read_full, not its contract, that ends only where the buffer is full, the input ends or a read
-// fails. What can be said is said: of the bytes read, that the buffer cuts no text that is answered; of those handed over, that they are `seek` of the bytes
-// read. That the count which `read_text` gave is the count that is answered, and that it is written, is seen by running it: seek, seek_longest, seek_longer.
+// No contract can say that the bytes read are those of standard input, or that the bytes handed to `write` arrive: of a read or write of those it is only
+// assumed how many bytes a call may move. What can be said is said, of any reader whose bytes are known and any writer that tells what it holds: that the
+// buffer cuts no text that is answered, and that what is written is `seek` of all that was there to read. That the reads of the program end only where its
+// input does, and that its answer arrives, is seen by running it: seek, seek_longest, seek_longer.
+// A read or write that fails ends the work with its error: half a text is not answered.
 #![tactic(auto)]
 
-ghost use Rattle.std.specs.Prelude.{◌≡◌, ◌≤◌, ◌<◌, length, take};
+ghost use Rattle.std.specs.Prelude.{◌≡◌, ◌≤◌, ◌<◌, length, take, IfSome, IfOk, OnOk};
+ghost use Rattle.std.specs.Io.KnownBytes.{Appends, Consumes, IsAtEnd};
 ghost use Rattle.definition.specs.Seek.{most_input, seek};
-ghost use Rattle.seek_input.specs.Streams.{TextRead};
+ghost use Rattle.seek_input.specs.Streams.{IsFront, TextRead};
 
-use libc::{STDIN_FILENO, STDOUT_FILENO};
+use std::io;
+use std::io::{Read, Write};
 
-// Reads standard input to the start of `text`, and tells how many bytes. There is room for more than the longest text, so that a longer one is told from it.
-fn read_text(text: &mut [u8]) -> usize
-    requires { most_input < length text.old }
-    ensures { TextRead result text.new }
+// Reads until `text` is full or the input ends, and tells how many bytes it put at the start of `text`.
+pub fn read_full<R: Read>(from: &mut R, text: &mut [u8]) -> io::Result<usize>
+    ensures front { IfOk result (λ count. IsFront count text.new) }
+    ensures bytes { IfOk result (λ count. Consumes (R.remaining from.old) (R.remaining from.new) (take count text.new)) }
+    ensures end { IfOk result (λ count. count < length text.new → IsAtEnd (R.remaining from.new)) }
 {
-    io::read_full(STDIN_FILENO, text)
+    let mut done = 0;
+    while done < text.len() {
+        let got = from.read(&mut text[done..])?;
+        if got == 0 {
+            return Ok(done);
+        }
+        done += got;
+    }
+    Ok(done)
+}
+
+// Reads a text to the start of `text`, and tells how many bytes. There is room for more than the longest text, so that a longer one is told from it.
+fn read_text<R: Read>(from: &mut R, text: &mut [u8]) -> io::Result<usize>
+    requires { most_input < length text.old }
+    ensures front { IfOk result (λ count. TextRead count text.new) }
+    ensures input { IfOk result (λ count. IfSome (R.remaining from.old) (λ input. seek (take count text.new) ≡ seek input)) }
+{
+    read_full(from, text)
 }
 
 // Hands to `write` what the first `count` bytes of a text are answered with, all of it and nothing else. The text is there for this statement alone.
-fn write_answer(text: &[u8], count: usize, bytes: &[u8])
+fn write_answer<W: Write>(to: &mut W, text: &[u8], count: usize, bytes: &[u8]) -> io::Result<()>
     requires { bytes.now ≡ seek (take count text.now) }
+    ensures { OnOk result (Appends (W.contents to.old) (W.contents to.new) (seek (take count text.now))) }
 {
-    io::write_all(STDOUT_FILENO, bytes);
+    to.write_all(bytes)
 }
 
-// Writes to standard output what `seek` prints for the first `count` bytes of a text.
-pub fn print_answer(text: &[u8], count: usize)
+// Writes what `seek` prints for the first `count` bytes of a text.
+pub fn print_answer<W: Write>(to: &mut W, text: &[u8], count: usize) -> io::Result<()>
     requires { count ≤ length text.now }
+    ensures { OnOk result (Appends (W.contents to.old) (W.contents to.new) (seek (take count text.now))) }
 {
     let mut vals = [0u32; 65536];
     let mut vectors = [0u8; 4096];
@@ -49,12 +72,19 @@ pub fn print_answer(text: &[u8], count: usize)
         &mut dists,
         &mut out,
     );
-    write_answer(text, count, &out[..n]);
+    write_answer(to, text, count, &out[..n])
+}
+
+// Reads a search as text, and writes its answers or the number of its refusal.
+pub fn answer<R: Read, W: Write>(from: &mut R, to: &mut W) -> io::Result<()>
+    ensures { OnOk result (IfSome (R.remaining from.old) (λ input. Appends (W.contents to.old) (W.contents to.new) (seek input))) }
+{
+    let mut text = [0u8; 65537];
+    let count = read_text(from, &mut text)?;
+    print_answer(to, &text, count)
 }
 
 // The program `seek`: a search as text from standard input, and its answers or the number of its refusal to standard output.
-pub fn answer_input() {
-    let mut text = [0u8; 65537];
-    let count = read_text(&mut text);
-    print_answer(&text, count);
+pub fn answer_input(rt: &(impl Input + Print)) -> io::Result<()> {
+    answer(&mut rt.reader(), &mut io::writer(rt))
 }

@@ -3,7 +3,7 @@
 
 ghost use Rattle.std.specs.Prelude.{◌≤◌, length};
 
-use libc::STDIN_FILENO;
+use std::io;
 
 // Where the text that begins at `at` ends.
 fn text_end(texts: &[u8], at: usize) -> usize
@@ -20,18 +20,19 @@ fn text_end(texts: &[u8], at: usize) -> usize
     end
 }
 
-fn answer_each(texts: &[u8]) {
+fn answer_each(rt: &impl Print, texts: &[u8]) -> io::Result<()> {
     let mut at = 0;
     while at < texts.len() {
         let end = text_end(texts, at);
         let count = end - at;
-        seek_input::print_answer(&texts[at..end], count);
+        seek_input::print_answer(&mut io::writer(rt), &texts[at..end], count)?;
         at = end + 1;
     }
+    Ok(())
 }
 
-fn main() {
+fn main(rt: HostRuntime) -> io::Result<()> {
     let mut texts = [0u8; 262144];
-    let got = io::read_full(STDIN_FILENO, &mut texts);
-    answer_each(&texts[..got]);
+    let got = seek_input::read_full(&mut rt.reader(), &mut texts)?;
+    answer_each(&rt, &texts[..got])
 }

@@ -3,7 +3,8 @@
 
 ghost use Rattle.std.specs.Prelude.{◌≡◌, length};
 
-use libc::{STDIN_FILENO, STDOUT_FILENO};
+use std::io;
+use std::io::Read;
 
 const PADDING: u32 = 4294967295;
 
@@ -39,15 +40,12 @@ fn next_place(at: usize, part: u32, next: u32) -> usize {
     if next == WORD {
         return at;
     }
-    std::num::wrapping_add_usize(at, 1)
+    at.wrapping_add(1)
 }
 
 // Modulo 2^32.
 fn ten_times(x: u32) -> u32 {
-    let two = std::num::wrapping_add_u32(x, x);
-    let four = std::num::wrapping_add_u32(two, two);
-    let eight = std::num::wrapping_add_u32(four, four);
-    std::num::wrapping_add_u32(eight, two)
+    x.wrapping_mul(10)
 }
 
 // The value after one more byte of its word: a digit, or `-`, which is padding.
@@ -58,8 +56,8 @@ fn next_value(x: u32, next: u32, b: u8) -> u32 {
     if b == b'-' {
         return PADDING;
     }
-    let digit = std::num::wrapping_sub_u32(b as u32, 48);
-    std::num::wrapping_add_u32(ten_times(x), digit)
+    let digit = u32::from(b).wrapping_sub(48);
+    ten_times(x).wrapping_add(digit)
 }
 
 fn put_word(words: &mut [u32], at: usize, x: u32)
@@ -83,45 +81,38 @@ fn read_words(r: Reading, text: &[u8], words: &mut [u32]) -> Reading {
     let mut part = r.part;
     let mut at = r.at;
     let mut value = r.value;
-    let mut i = 0;
-    while i < text.len() {
-        let next = next_part(part, text[i]);
+    for b in text {
+        let next = next_part(part, *b);
         at = next_place(at, part, next);
-        value = next_value(value, next, text[i]);
+        value = next_value(value, next, *b);
         put_word(words, at, value);
         part = next;
-        i += 1;
     }
-    Reading {
-        part: part,
-        at: at,
-        value: value,
-    }
-}
-
-fn read_some(r: Reading, words: &mut [u32]) -> Reading {
-    let mut text = [0u8; 65536];
-    let got = io::read_full(STDIN_FILENO, &mut text);
-    read_words(r, &text[..got], words)
+    Reading { part, at, value }
 }
 
 // The words of standard input, of which at most 2^20 bytes are read. Words that are not there stay as they are.
-pub fn read_input(words: &mut [u32]) {
+pub fn read_input(rt: &impl Input, words: &mut [u32]) -> io::Result<()> {
+    let mut input = rt.reader().take(1048576);
+    let mut text = [0u8; 65536];
     let mut r = Reading {
         part: BLANK,
         at: 0,
         value: 0,
     };
-    let mut left: u32 = 16;
-    while 0 < left {
-        r = read_some(r, words);
-        left -= 1;
+    for _ in 0..1048576 {
+        let got = input.read(&mut text)?;
+        if got == 0 {
+            return Ok(());
+        }
+        r = read_words(r, &text[..got], words);
     }
+    Ok(())
 }
 
 // The word `far` places after `at`; 0 beyond the last.
 pub fn word_at(words: &[u32], at: usize, far: usize) -> u32 {
-    let i = std::num::wrapping_add_usize(at, far);
+    let i = at.wrapping_add(far);
     if i < words.len() {
         return words[i];
     }
@@ -137,10 +128,8 @@ pub fn number_at(words: &[u32], at: usize, far: usize) -> usize {
 pub fn copy_words(words: &[u32], at: usize, list: &mut [u32])
     ensures { length list.new ≡ length list.old }
 {
-    let mut i = 0;
-    while i < list.len() {
-        list[i] = word_at(words, at, i);
-        i += 1;
+    for (i, x) in list.iter_mut().enumerate() {
+        *x = word_at(words, at, i);
     }
 }
 
@@ -153,35 +142,28 @@ fn byte(x: u32) -> u8 {
 pub fn copy_bytes(words: &[u32], at: usize, list: &mut [u8])
     ensures { length list.new ≡ length list.old }
 {
-    let mut i = 0;
-    while i < list.len() {
-        list[i] = byte(word_at(words, at, i));
-        i += 1;
+    for (i, x) in list.iter_mut().enumerate() {
+        *x = byte(word_at(words, at, i));
     }
 }
 
 // 16,777,619 times the sum of both, modulo 2^32.
 fn mixed(sum: u32, x: u32) -> u32 {
-    let both = std::num::wrapping_add_u32(sum, x);
-    let product = (both as u64) * 16777619;
-    let low = product % 4294967296;
-    low as u32
+    sum.wrapping_add(x).wrapping_mul(16777619)
 }
 
 // A sum that depends on every word and its place.
 pub fn words_sum(xs: &[u32]) -> u32 {
     let mut sum: u32 = 2166136261;
-    let mut i = 0;
-    while i < xs.len() {
-        sum = mixed(sum, xs[i]);
-        i += 1;
+    for x in xs {
+        sum = mixed(sum, *x);
     }
     sum
 }
 
 // `low`, or with `step` more where x is not below that.
 fn at_least(x: f32, low: u32, step: u32) -> u32 {
-    let next = std::num::wrapping_add_u32(low, step);
+    let next = low.wrapping_add(step);
     if x < std::num::nearest_u32_to_f32(next) {
         return low;
     }
@@ -201,53 +183,51 @@ pub fn float_word(x: f32) -> u32 {
 
 pub fn floats_sum(xs: &[f32]) -> u32 {
     let mut sum: u32 = 2166136261;
-    let mut i = 0;
-    while i < xs.len() {
-        sum = mixed(sum, float_word(xs[i]));
-        i += 1;
+    for x in xs {
+        sum = mixed(sum, float_word(*x));
     }
     sum
 }
 
-pub fn say(text: &[u8]) {
-    io::write_all(STDOUT_FILENO, text);
+pub fn say(rt: &impl Print, text: &[u8]) -> io::Result<()> {
+    rt.write_all(text)
 }
 
-pub fn say_number(x: u64) {
-    io::print_decimal(STDOUT_FILENO, x);
+pub fn say_number(rt: &impl Print, x: u64) -> io::Result<()> {
+    rt.print(x)
 }
 
 // A number with a space after it.
-pub fn say_field(x: u64) {
-    say_number(x);
-    say(b" ");
+pub fn say_field(rt: &impl Print, x: u64) -> io::Result<()> {
+    say_number(rt, x)?;
+    say(rt, b" ")
 }
 
 // A space and a word of a table, `-` for padding.
-pub fn say_word(x: u32) {
-    say(b" ");
+pub fn say_word(rt: &impl Print, x: u32) -> io::Result<()> {
+    say(rt, b" ")?;
     if x == PADDING {
-        say(b"-");
+        say(rt, b"-")
     } else {
-        say_number(x as u64);
+        say_number(rt, u64::from(x))
     }
 }
 
 // A row ends after each `width` words.
-fn end_row(i: usize, width: usize) {
+fn end_row(rt: &impl Print, i: usize, width: usize) -> io::Result<()> {
     if width == 0 {
-        return;
+        return Ok(());
     }
     if i % width == 0 {
-        say(b"\n");
+        return say(rt, b"\n");
     }
+    Ok(())
 }
 
-pub fn say_rows(xs: &[u32], width: usize) {
-    let mut i = 0;
-    while i < xs.len() {
-        say_word(xs[i]);
-        i += 1;
-        end_row(i, width);
+pub fn say_rows(rt: &impl Print, xs: &[u32], width: usize) -> io::Result<()> {
+    for (i, x) in xs.iter().enumerate() {
+        say_word(rt, *x)?;
+        end_row(rt, i + 1, width)?;
     }
+    Ok(())
 }

@@ -12,7 +12,7 @@ use base.Logic.{SProp, ent, sep, wand, emp, id⊢, via, comm∗, mono_l, mono_r,
 use base.Fml.{Share, Fml, ftrue, fsep, flft}
 use prog.Memory.{Memory}
 use prog.Model.{Model}
-use prog.Routine.{Name, Routine, Env as Routines}
+use prog.Routine.{Callee as Name, Routine, Env as Routines}
 use prog.Wp.{Heap, Env, Calls, Loops, WpFn, Closed}
 use types.Logic.{Logic, sem}
 use contract.Lifetimes.{Lfts, Shares, Within, toks, AllOutlive}
@@ -126,7 +126,7 @@ Clausess T = (M : Type 1) (𝓤 : Ura M) (𝓛 : Logic 𝓤) (mem : Memory → S
 
 module _ {M : Type 1} {𝓤 : Ura M} (𝓛 : Logic 𝓤) (𝓜 : Model 𝓤 𝓛.H) (𝓡 : Running 𝓤 𝓛.H 𝓜) (T : Ended) (c : Clausess T) where
   abbrev pub said_by : Clauses 𝓤 T
-  said_by = c M 𝓤 𝓛 𝓜.mem 𝓡.run
+  said_by = c M 𝓤 𝓛 𝓜.mem 𝓡.returns
 
   abbrev pub contract_of : Contract 𝓤
   contract_of = triple_of 𝓛 T.signature (closing 𝓛 T said_by)

@@ -2,7 +2,7 @@
 -- The frame is closed to the checker (`unfoldable`): a walk looks its locals up in the list cs, and a context stays as short as its borrows.
 --     Cell, frame      a local: its type, its block, and what it holds. `frame cs` owns them all, and may free them
 --     Has, At          the local n of cs is so; it has this type and block.        locals      the frame as an entry
---     at_local         a local of the frame, as a part of that entry (the kit's `types.Part`);        in-last      such a part is read
+--     at_local         a local of the frame, as a part of that entry (the kit's `types.Part`);        in_last      such a part is read
 --     into             a local is written.        forgets      what some locals hold is forgotten, so that two paths meet
 --     enters           a function begins: its locals are allocated, and hold the arguments.        leaves_at      it returns, and they are freed
 use Rattle.std.specs.Prelude.{◌≡◌, T}
@@ -12,7 +12,7 @@ use Prim.Native.Nat.{ℕ, zero, suc}
 use Rattle.std.proofs.Math.Option.{Option, none, some, some-injective, none-ne-some}
 use mathlib.Core.List.{List, [], ◌∷◌, ◌++◌}
 use seplogic.Ra.Ura.{Ura}
-use seplogic.Ra.TreeShare.{full_share}
+use base.Fraction.{full_share}
 use mir.Syntax.{Ty, Local, local, Fn, return}
 use mir.Val.{Val, WT, has_ty}
 use base.Logic.{SProp, ent, sep, wand, all, ex, emp, id⊢, via, comm∗, assoc∗, mono_r, emp∗, snd∗, wand_i, apply∗, all_i, all_e}

@@ -1,22 +1,22 @@
 -- Statements that walks have in common, on the frame of `Frame`. `i ∷ Γ` is the context, whose last entry is the frame cs of the environment E.
 -- A local's number, and `refl` for what the frame has there, is all that a step asks of its frame.
 --     here                      the evidence that cs is the frame, and E its environment: `(refl, refl)`
---     local-is, field_is        a local as an operand, and a field of one;        through, pointee   a place in a local, behind one
---     sets, sets-as, sets_last  a local takes a value: before other statements, under another spelling, as the last statement of a block
+--     local_is, field_is        a local as an operand, and a field of one;        through, pointee   a place in a local, behind one
+--     sets, sets_as, sets_last  a local takes a value: before other statements, under another spelling, as the last statement of a block
 --     counts                    `s.len()`, into a local
 --     relends                   `&mut *s` of a slice in a local p, into two new locals: its pointer, and the slice
 --     values                    the operands of a call, each a local as it is
---     lands_as, lands-field     what a call returned, into a local: a struct, and a field's type
---     leaves, leaves-within     the function returns its first local: at the end of the code, and within a branch
+--     lands_as, lands_field     what a call returned, into a local: a struct, and a field's type
+--     leaves, leaves_within     the function returns its first local: at the end of the code, and within a branch
 use Rattle.std.specs.Prelude.{◌≡◌, refl, ℕ, zero, suc, T}
 use Rattle.std.proofs.Common.{sym, ap, ◌∙◌, subst}
 use Rattle.std.proofs.Math.Option.{Option, none, some, some-injective, none-ne-some}
 use mathlib.Core.List.{List, [], ◌∷◌, nil≢cons, cons≢nil, head-eq_of_cons-eq, tail-eq_of_cons-eq}
 use seplogic.Ra.Ura.{Ura}
-use seplogic.Ra.TreeShare.{full_share}
+use base.Fraction.{full_share}
 use mir.Syntax.{Mutability, Lifetime, Sym, Width, w64, Ty, Tys, ty_int, ty_ref, ty_struct, deref, field}
 use mir.Syntax.{Step as PStep, place, Opd as Operand, copy, int, int_neg, int_big, float, opd_true, opd_false}
-use mir.Syntax.{opd_unit, ptr_const, Rv as Rvalue, addr_of, aggregate, rv_opd, Body, skip, seq, assign, return}
+use mir.Syntax.{opd_unit, ptr_const, size_of, align_of, num_of, fn_addr, vtable, Rv as Rvalue, addr_of, aggregate, rv_opd, Body, skip, seq, assign, return}
 use mir.Val.{Val, Vals, vint, vptr, vstruct, WT, has_ty}
 use mir.Fields.{get_v}
 use prog.Memory.{field_at}
@@ -260,14 +260,14 @@ module _ {M : Type 1} {𝓤 : Ura M} {𝓛 : Logic 𝓤} {K : Type 0} {Γ : List
   -- what a call returned, into a local: it is held as the laws of its type spell it
   lands_spelt : K → (R : RattleType) (val : R.Denot → Val) → Tells R (Is R) (λ y. val y ∷ []) → Lawful 𝓛 R
       → (r : R.Denot) {n : ℕ} {cs : List Cell} {τ : Ty} {b : ℕ} {w : Val}
-      → Framed E cs (‵ (R.own r (w ∷ []))) Γ → R.mir ≡ τ ∷ [] → At cs n τ b
-      → (Is R r (val r ∷ []) → Seq K 𝓛 (put_last (locals (putc cs n (holds τ b (val r)))) (‵ (R.own r (val r ∷ []))) Γ) (runs C Λ E rest q))
-      → Seq K 𝓛 (‵ (R.own r (w ∷ [])) ∷ Γ) (lands C Λ E (place n []) w rest q)
+      → Framed E cs (‵ (R.own_val r (w ∷ []))) Γ → R.mir ≡ τ ∷ [] → At cs n τ b
+      → (Is R r (val r ∷ []) → Seq K 𝓛 (put_last (locals (putc cs n (holds τ b (val r)))) (‵ (R.own_val r (val r ∷ []))) Γ) (runs C Λ E rest q))
+      → Seq K 𝓛 (‵ (R.own_val r (w ∷ [])) ∷ Γ) (lands C Λ E (place n []) w rest q)
   lands_spelt t R val tells lawful r {n} {cs} {τ} {b} {w} f one h k = peeks t R (Is R) (shows 𝓛 R) r (w ∷ []) (λ is.
       let same : w ≡ val r = ap only (tells r (w ∷ []) is) in
       let ok : Typed (τ ∷ []) (w ∷ []) = subst (λ (τs : List Ty). Typed τs (w ∷ [])) one (lawful.typed r (w ∷ []) is) in
-      land t (from_local 𝓛 K (‵ (R.own r (w ∷ []))) Γ E cs f t n τ b _ _ h (stop t)) (into t n f.0 h ok.0) $
-      subst (λ (u : Val). Seq K 𝓛 (put_last (locals (putc cs n (holds τ b u))) (‵ (R.own r (u ∷ []))) Γ) (runs C Λ E rest q)) (sym same)
+      land t (from_local 𝓛 K (‵ (R.own_val r (w ∷ []))) Γ E cs f t n τ b _ _ h (stop t)) (into t n f.0 h ok.0) $
+      subst (λ (u : Val). Seq K 𝓛 (put_last (locals (putc cs n (holds τ b u))) (‵ (R.own_val r (u ∷ []))) Γ) (runs C Λ E rest q)) (sym same)
       (k (subst (λ (u : Val). Is R r (u ∷ [])) same is)))
 
   pub lands_field : K → (F : Field) (L : FLaws F) (r : F.row.Denot) {n : ℕ} {cs : List Cell} {τ : Ty} {b : ℕ} {w : Val}
@@ -278,10 +278,10 @@ module _ {M : Type 1} {𝓤 : Ura M} {𝓛 : Logic 𝓤} {K : Type 0} {Γ : List
   lands_field t F L r f one h k = lands_spelt t F.row L.val L.tells (L.lawful 𝓛) r f one h k
 
   pub lands_as : K → (D : Declared) (L : LL.Laws D) (r : D.D) {n : ℕ} {cs : List Cell} {τ : Ty} {b : ℕ} {w : Val}
-      → Framed E cs (‵ ((row D).own r (w ∷ []))) Γ → (row D).mir ≡ τ ∷ [] → At cs n τ b
+      → Framed E cs (‵ ((row D).own_val r (w ∷ []))) Γ → (row D).mir ≡ τ ∷ [] → At cs n τ b
       → (Is (row D) r (LL.vals D L r)
-      → Seq K 𝓛 (put_last (locals (putc cs n (holds τ b (LL.val D L r)))) (‵ ((row D).own r (LL.vals D L r))) Γ) (runs C Λ E rest q))
-      → Seq K 𝓛 (‵ ((row D).own r (w ∷ [])) ∷ Γ) (lands C Λ E (place n []) w rest q)
+      → Seq K 𝓛 (put_last (locals (putc cs n (holds τ b (LL.val D L r)))) (‵ ((row D).own_val r (LL.vals D L r))) Γ) (runs C Λ E rest q))
+      → Seq K 𝓛 (‵ ((row D).own_val r (w ∷ [])) ∷ Γ) (lands C Λ E (place n []) w rest q)
   lands_as t D L r f one h k = lands_spelt t (row D) (LL.val D L) (LL.tells D L) (LL.lawful D L 𝓛) r f one h k
 
 -- ---- the arm of a branch that does nothing: what follows the branch runs
@@ -309,6 +309,11 @@ named cs opd_true = none
 named cs opd_false = none
 named cs opd_unit = none
 named cs (ptr_const n) = none
+named cs (size_of τ) = none
+named cs (align_of τ) = none
+named cs (num_of w τ) = none
+named cs (fn_addr k σ) = none
+named cs (vtable τ ss) = none
 
 abbrev pub held : List Cell → List Operand → List (Option Val)
 held cs [] = []
@@ -335,6 +340,11 @@ module _ {M : Type 1} {𝓤 : Ura M} {𝓛 : Logic 𝓤} {K : Type 0} {i : Item 
   operand t opd_false v f e = absurd (none-ne-some v e)
   operand t opd_unit v f e = absurd (none-ne-some v e)
   operand t (ptr_const n) v f e = absurd (none-ne-some v e)
+  operand t (size_of τ) v f e = absurd (none-ne-some v e)
+  operand t (align_of τ) v f e = absurd (none-ne-some v e)
+  operand t (num_of w τ) v f e = absurd (none-ne-some v e)
+  operand t (fn_addr k σ) v f e = absurd (none-ne-some v e)
+  operand t (vtable τ ss) v f e = absurd (none-ne-some v e)
 
   operands : K → (xs : List Operand) (vs : List Val) {cs : List Cell} → Framed E cs i Γ → held cs xs ≡ all_some vs → Opds K 𝓛 (i ∷ Γ) E xs vs
   operands t [] [] f e = no_more t

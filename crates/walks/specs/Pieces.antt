@@ -10,7 +10,8 @@ use seplogic.Ra.Ura.{Ura}
 use base.Logic.{SProp, ent, sep, emp, id⊢, via, assoc', mono∗, mono_l, mono_r, emp∗, snd∗}
 use contract.Monad.{top}
 use base.Fml.{Fml, ftrue, ffalse, feq, flt, fsep, fand, for, fwand, fex, fall, fupd, fat}
-use base.Fml.{froom, fdies, flft, fdead, fobs, fauth, fres, fbor, fobor, flent, fshr_bor}
+use base.Fml.{fhide, froom, fleft, fdies, flft, fdead, fobs, fauth, fres, fown, fbor, fobor, flent, fshr_bor}
+use base.Fml.{finv, fnamed, ftok, fkid, fme, fsent}
 use types.Logic.{Logic, sem}
 use types.Kit.{Item, ‵, raw, ◌⊛◌, some as any, given, later, ⋆, mean, nth, del, pull, sel, sel⊢, ++⊢, push, pop, Goal, Step, step, by, cut, use1}
 
@@ -27,18 +28,27 @@ sides (fwand P Q) = none
 sides (fex X F) = none
 sides (fall X F) = none
 sides (fupd P) = none
+sides (fhide P) = none
 sides (fat q τ b o v) = none
 sides (froom τ b o) = none
+sides (fleft q τ τs b o) = none
 sides (fdies τ b) = none
 sides (flft κ q) = none
 sides (fdead κ) = none
 sides (fobs γ u) = none
 sides (fauth γ u) = none
 sides (fres γ u) = none
+sides (fown R γ x) = none
 sides (fbor κ P) = none
 sides (fobor κ q P) = none
 sides (flent κ P) = none
 sides (fshr_bor κ P) = none
+sides (finv P) = none
+sides (fnamed n P) = none
+sides (ftok E) = none
+sides (fkid h a) = none
+sides (fme h) = none
+sides (fsent h) = none
 
 abbrev left-of : Option (Fml × Fml) → Fml
 left-of none = ftrue
@@ -74,18 +84,27 @@ module _ {M : Type 1} {𝓤 : Ura M} (𝓛 : Logic 𝓤) where
   two_sides (fex X F) = let_go (sem 𝓛 (fex X F))
   two_sides (fall X F) = let_go (sem 𝓛 (fall X F))
   two_sides (fupd P) = let_go (sem 𝓛 (fupd P))
+  two_sides (fhide P) = let_go (sem 𝓛 (fhide P))
   two_sides (fat q τ b o v) = let_go (sem 𝓛 (fat q τ b o v))
   two_sides (froom τ b o) = let_go (sem 𝓛 (froom τ b o))
+  two_sides (fleft q τ τs b o) = let_go (sem 𝓛 (fleft q τ τs b o))
   two_sides (fdies τ b) = let_go (sem 𝓛 (fdies τ b))
   two_sides (flft κ q) = let_go (sem 𝓛 (flft κ q))
   two_sides (fdead κ) = let_go (sem 𝓛 (fdead κ))
   two_sides (fobs γ u) = let_go (sem 𝓛 (fobs γ u))
   two_sides (fauth γ u) = let_go (sem 𝓛 (fauth γ u))
   two_sides (fres γ u) = let_go (sem 𝓛 (fres γ u))
+  two_sides (fown R γ x) = let_go (sem 𝓛 (fown R γ x))
   two_sides (fbor κ P) = let_go (sem 𝓛 (fbor κ P))
   two_sides (fobor κ q P) = let_go (sem 𝓛 (fobor κ q P))
   two_sides (flent κ P) = let_go (sem 𝓛 (flent κ P))
   two_sides (fshr_bor κ P) = let_go (sem 𝓛 (fshr_bor κ P))
+  two_sides (finv P) = let_go (sem 𝓛 (finv P))
+  two_sides (fnamed n P) = let_go (sem 𝓛 (fnamed n P))
+  two_sides (ftok E) = let_go (sem 𝓛 (ftok E))
+  two_sides (fkid h a) = let_go (sem 𝓛 (fkid h a))
+  two_sides (fme h) = let_go (sem 𝓛 (fme h))
+  two_sides (fsent h) = let_go (sem 𝓛 (fsent h))
 
   abbrev pub entries : List Fml → List (Item 𝓤)
   entries [] = []

@@ -1,8 +1,6 @@
 -- `add_naming` meets its contract. The invariant: what the chain has still to give, put in after what is in the list, gives all that name the node.
-use native.Mathlib.Omega.{arith}
-use borrow.Author.Rules.{rules}
 use Rattle.given.specs.Fresh.{merging}
-use Rattle.batch_chains.proofs.Along.{front, Along, along_start, along_on, along_less, along_end}
+use Rattle.batch_chains.proofs.Along.{front, Along}
 use Rattle.batch_chains.proofs.add_naming.Given as goal
 
 abbrev pub invariant-loop-e : goal.invariant-loop-e

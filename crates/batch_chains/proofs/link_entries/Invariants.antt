@@ -1,8 +1,6 @@
 -- `link_entries` meets its contract. The invariant: the first e entries are linked, all else is as it was.
 use Prim.Native.Nat.{◌-◌}
-use native.Mathlib.Omega.{arith}
-use borrow.Author.Rules.{rules}
-use Rattle.batch_chains.proofs.Chaining.{Linking, linking_start, linking_on, linking_end, requires_one}
+use Rattle.batch_chains.proofs.Chaining.{Linking}
 use Rattle.batch_chains.proofs.link_entries.Given as goal
 
 abbrev pub invariant-loop-e : goal.invariant-loop-e

@@ -1,7 +1,6 @@
 -- `link_entry` meets its contract: what is read is the entry, and two words are set, the link and then the head.
 use native.Mathlib.Omega.{arith}
 use lib.ListN.{length-set}
-use borrow.Author.Rules.{rules}
 use Rattle.batch_chains.proofs.Chaining.{one_past, one_linked}
 use Rattle.batch_chains.proofs.link_entry.Goals as goal
 

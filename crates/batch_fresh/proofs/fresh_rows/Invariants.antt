@@ -1,16 +1,11 @@
 -- `fresh_rows` meets its contract. The invariant: the first p rows are the definition's, and the scratch is ready for the next.
 use mathlib.Core.Path.{◌≡◌}
-use Prim.Native.Nat.{◌+◌, ◌-◌, ◌*◌, ◌≤◌, ◌<◌}
-use native.Mathlib.Nat.{zero-mul}
-use native.Mathlib.Omega.{arith}
+use Prim.Native.Nat.{◌+◌, ◌-◌, ◌*◌, ◌≤◌}
 use lib.ListN.{length}
-use borrow.Author.Rules.{rules}
 use Rattle.scratch.specs.Lent.{lent}
 use Rattle.given.specs.Given.{given}
 use Rattle.given.specs.Listing.{listing}
 use Rattle.batch_fresh.specs.Made.{Between, RowsMade}
-use Rattle.batch_fresh.proofs.Listing.{rows_none, rows_more, rows_all, insertable, epoch_room, epoch_more, epoch_all}
-use Rattle.laws.specs.Tables.{row_fits}
 use Rattle.batch_fresh.proofs.fresh_rows.Given as goal
 
 abbrev pub invariant-loop-p : goal.invariant-loop-p

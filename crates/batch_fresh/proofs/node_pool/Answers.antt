@@ -1,33 +1,15 @@
 -- `node_pool` meets its contract. No stamp is the node's yet, so the pool begins empty; the part lent as the query is the node's vector.
 use mathlib.Core.Path.{refl, subst}
-use Prim.Native.Nat.{ℕ, ◌+◌, ◌*◌, ◌≤◌}
+use Prim.Native.Nat.{ℕ, ◌+◌}
 use native.Mathlib.Omega.{arith}
 use mathlib.Core.List.{List}
-use lib.ListN.{length}
-use borrow.Author.Rules.{rules}
 use Rattle.definition.specs.Metric.{from_query}
 use Rattle.metric.specs.Laws.{vector_in, lent_vector, lent_length}
 use Rattle.given.specs.Given.{given, degree-slack}
 use Rattle.batch_pool.specs.Regions.{stage, Grown, pooled_ids}
 use Rattle.batch_fresh.specs.Made.{plan_of}
 use Rattle.batch_fresh.proofs.Making.{holding_blank}
-use Rattle.laws.specs.Tables.{row_fits}
 use Rattle.batch_fresh.proofs.node_pool.Goals as goal
-
--- the node's vector lies in the vectors
-fits : (c : goal.Start) → c.args.node * c.args.g.dim + c.args.g.dim ≤ length c.args.vectors.now
-fits c =
-    let a = c.args in
-    omega (arith, row_fits a.node a.g.n a.g.dim c.requires.insertable.node_in, c.requires.walk_limits.limits.vectors_are)
-
-pub overflow_mul-at : goal.overflow_mul-at
-overflow_mul-at c = omega (arith, fits c, c.well-formed.1.0)
-
-pub overflow_add-end : goal.overflow_add-end
-overflow_add-end c = omega (arith, fits c, c.well-formed.1.0)
-
-pub slice_bounds-collect_pool-end : goal.slice_bounds-collect_pool-end
-slice_bounds-collect_pool-end c = fits c
 
 pub collect_pool-requires : goal.collect_pool-requires
 collect_pool-requires c =
@@ -66,4 +48,4 @@ returns c =
     }
 
 pub shape_of-words : goal.shape_of-words
-shape_of-words c = (returns c).0.grown.kept.size
+shape_of-words c = (returns c).node_pool.grown.kept.size

@@ -1,13 +1,9 @@
 -- `add_row`. The loop's invariant: the ids of the words before place k have been added.
-use mathlib.Core.Logic.{⊎_elim}
-use Prim.Native.Nat.{◌-◌, ◌<◌}
-use native.Mathlib.Omega.{arith}
+use Prim.Native.Nat.{◌-◌}
 use lib.ListN.{length}
 use Rattle.definition.specs.Metric.{from_query}
-use Rattle.metric.specs.Laws.{vector_in}
 use Rattle.batch_pool.specs.Pooled.{pool_as}
-use Rattle.batch_pool.proofs.Rows.{RowSoFar, row_start, row_done, row_pad, row_real}
-use borrow.Author.Rules.{rules}
+use Rattle.batch_pool.proofs.Rows.{RowSoFar}
 use Rattle.batch_pool.proofs.add_row.Given as goal
 
 abbrev pub invariant-loop-k : goal.invariant-loop-k

@@ -1,10 +1,9 @@
 -- `add_visited`. The loop's invariant: the first k that were visited have been added. The pool's region is lent for each of them.
 use mathlib.Core.Path.{◌≡◌, sym, subst}
-use Prim.Native.Nat.{ℕ, ◌-◌, ◌≤◌, ◌<◌}
+use Prim.Native.Nat.{ℕ, ◌<◌}
 use native.Mathlib.Omega.{arith}
-use Rattle.batch_pool.specs.Regions.{stage, Filled}
+use Rattle.batch_pool.specs.Regions.{Filled}
 use Rattle.batch_pool.proofs.Lending.{filled_none, id_kept, filled_more}
-use borrow.Author.Rules.{rules}
 use Rattle.batch_pool.proofs.add_visited.Goals as goal
 
 pub loop-k-init : goal.loop-k-init
@@ -16,13 +15,8 @@ add_once-more-requires c =
     let f = c.loop-k.invariant.1 in
     let h : c.loop-k.k < c.args.n = omega (arith, q.2) in
     let low = c.requires.seen_below c.loop-k.k (omega arith) in
-    simp (c.visited_at-ids_at.ensures, c.pool_at-pool_at.ensures, c.pool_end-pool_end.ensures) (
-      f.added.pooled,
-      (q.0, subst (λ (i : ℕ). i < c.args.n) (sym (id_kept _ _ _ c.loop-k.k f h q.1)) low),
-    )
-
-pub loop-k-smaller : goal.loop-k-smaller
-loop-k-smaller c = omega arith
+    simp (c.visited_at-ids_at.ensures, c.pool_at-pool_at.ensures, c.pool_end-pool_end.ensures)
+    (record { pooled = f.added.pooled; n_bound = (q.0, subst (λ (i : ℕ). i < c.args.n) (sym (id_kept _ _ _ c.loop-k.k f h q.1)) low) })
 
 pub loop-k-preserved : goal.loop-k-preserved
 loop-k-preserved c =

@@ -1,10 +1,6 @@
 -- `add_visited`. The loop's invariant: the first k that were visited have been added. The pool's region is lent for each of them.
-use mathlib.Core.Path.{◌≡◌, sym, subst}
-use Prim.Native.Nat.{ℕ, ◌-◌, ◌≤◌, ◌<◌}
-use native.Mathlib.Omega.{arith}
+use Prim.Native.Nat.{◌-◌, ◌≤◌}
 use Rattle.batch_pool.specs.Regions.{stage, Filled}
-use Rattle.batch_pool.proofs.Lending.{filled_none, id_kept, filled_more}
-use borrow.Author.Rules.{rules}
 use Rattle.batch_pool.proofs.add_visited.Given as goal
 
 abbrev pub invariant-loop-k : goal.invariant-loop-k

@@ -1,7 +1,6 @@
 -- `add_walk`. The walk leaves the pool alone, and the words hold what it visited.
 use mathlib.Core.Path.{refl}
 use Rattle.batch_pool.proofs.Growing.{walked, grown_walk}
-use borrow.Author.Rules.{rules}
 use Rattle.batch_pool.proofs.add_walk.Goals as goal
 
 pub greedy-s-requires : goal.greedy-s-requires
@@ -10,7 +9,8 @@ greedy-s-requires c =
 
 pub add_visited-more-requires : goal.add_visited-more-requires
 add_visited-more-requires c =
-    walked c.requires.walkable _ _ c.requires.start_lt_n c.requires.epoch_bound.1 c.greedy-s.ensures
+    let w = walked c.requires.walkable _ _ c.requires.start_lt_n c.requires.epoch_bound.1 c.greedy-s.ensures in
+    record { pooled = w.0; n_bound = w.1.0; seen_below = w.1.1 }
 
 pub returns : goal.returns
 returns c = record { grown = grown_walk c.requires.walkable _ _ c.requires.start_lt_n c.requires.epoch_bound.1 c.greedy-s.ensures c.add_visited-more.ensures; epoch_value = c.greedy-s.ensures.epoch_is }

@@ -1,14 +1,10 @@
 -- `add_walks`. The loop's invariant: the walks from the first k seeds have been made.
-use mathlib.Core.List.{map}
-use mathlib.Core.Path.{◌≡◌}
-use Prim.Native.Nat.{◌+◌, ◌-◌, ◌≤◌, ◌<◌}
+use Prim.Native.Nat.{◌<◌}
 use native.Mathlib.Omega.{arith}
-use lib.ListN.{length, take}
-use Rattle.definition.specs.Lists.{joined}
+use lib.ListN.{length}
 use Rattle.definition.specs.Metric.{from_query}
-use Rattle.batch_pool.specs.Regions.{stage, Grown, visits}
+use Rattle.batch_pool.specs.Regions.{visits}
 use Rattle.batch_pool.proofs.Growing.{grown_none, grown_then, joined-none, joined_next, joined-all}
-use borrow.Author.Rules.{rules}
 use Rattle.batch_pool.proofs.add_walks.Goals as goal
 
 pub loop-k-init : goal.loop-k-init
@@ -19,13 +15,6 @@ loop-k-init c =
 pub add_walk-s-requires : goal.add_walk-s-requires
 add_walk-s-requires c =
     let room = c.requires.seeds_bound.0 in record { walkable = c.requires.walkable; epoch_bound = (omega (arith, c.loop-k.invariant.1), c.loop-k.invariant.2.holding); start_lt_n = c.requires.below c.loop-k.k (omega arith) }
-
-pub overflow_add-k : goal.overflow_add-k
-overflow_add-k c =
-    omega (arith, c.loop-k-test.true, c.well-formed.1.1.1.1.1.1.0)
-
-pub loop-k-smaller : goal.loop-k-smaller
-loop-k-smaller c = omega arith
 
 pub loop-k-preserved : goal.loop-k-preserved
 loop-k-preserved c =

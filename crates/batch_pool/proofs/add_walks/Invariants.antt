@@ -1,14 +1,11 @@
 -- `add_walks`. The loop's invariant: the walks from the first k seeds have been made.
 use mathlib.Core.List.{map}
 use mathlib.Core.Path.{◌≡◌}
-use Prim.Native.Nat.{◌+◌, ◌-◌, ◌≤◌, ◌<◌}
-use native.Mathlib.Omega.{arith}
+use Prim.Native.Nat.{◌+◌, ◌-◌, ◌≤◌}
 use lib.ListN.{length, take}
 use Rattle.definition.specs.Lists.{joined}
 use Rattle.definition.specs.Metric.{from_query}
 use Rattle.batch_pool.specs.Regions.{stage, Grown, visits}
-use Rattle.batch_pool.proofs.Growing.{grown_none, grown_then, joined-none, joined_next, joined-all}
-use borrow.Author.Rules.{rules}
 use Rattle.batch_pool.proofs.add_walks.Given as goal
 
 abbrev pub invariant-loop-k : goal.invariant-loop-k

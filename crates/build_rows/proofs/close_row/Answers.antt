@@ -7,28 +7,25 @@ use Rattle.scratch.specs.Layout.{widest}
 use Rattle.build_rows.proofs.Closing.{lent_few, copied_few, row_asks, row_closed}
 use Rattle.build_rows.proofs.close_row.Goals as goal
 
--- from the copied ids back to the call
-abbrev called : goal.After-copy_ids-count → goal.Start
-called c = c
-
 pub copy_ids-count-requires : goal.copy_ids-count-requires
 copy_ids-count-requires c = lent_few c.requires
 
 pub slice_bounds-fit_row-end : goal.slice_bounds-fit_row-end
 slice_bounds-fit_row-end c =
-    omega (arith, c.copy_ids-count.auto.1.0, copied_few (called c).requires c.copy_ids-count.ensures)
+    omega (arith, c.copy_ids-count.auto.out, copied_few c.requires c.copy_ids-count.ensures)
 
 pub slice_bounds-dists-end : goal.slice_bounds-dists-end
 slice_bounds-dists-end c =
-    omega (arith, copied_few (called c).requires c.copy_ids-count.ensures)
+    omega (arith, copied_few c.requires c.copy_ids-count.ensures)
 
 pub fit_row-requires : goal.fit_row-requires
 fit_row-requires c =
     let list = c.copy_ids-count in
-    row_asks (called c).requires list.ensures c.word_of-node.ensures (replicate widest 0) list.auto.1.0
-    (length-replicate {A = ℕ} widest 0)
+    let asks = row_asks c.requires list.ensures c.word_of-node.ensures (replicate widest 0) list.auto.out
+    (length-replicate {A = ℕ} widest 0) in
+    record { fittable = asks.0; dists_len = asks.1 }
 
 pub returns : goal.returns
 returns c =
     let fitted = c.fit_row in
-    row_closed (called c).requires c.copy_ids-count.ensures c.word_of-node.ensures fitted.ensures
+    row_closed c.requires c.copy_ids-count.ensures c.word_of-node.ensures fitted.ensures

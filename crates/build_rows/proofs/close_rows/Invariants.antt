@@ -9,7 +9,7 @@ use Rattle.build_rows.proofs.Closing.{Closing, close_start, close_asks, close_mo
 use Rattle.build_rows.proofs.close_rows.Given as goal
 
 abbrev pub invariant-loop-i : goal.invariant-loop-i
-invariant-loop-i l = Closing (given l.g l.vectors) l.wide l.initial.closed l.closed l.i × (length l.factors ≡ length l.initial.factors)
+invariant-loop-i l = Closing (given l.g l.vectors) l.wide l.initial.closed l.closed l.i
 
 abbrev pub decreases-loop-i : goal.decreases-loop-i
 decreases-loop-i l = l.n - l.i

@@ -1,49 +1,41 @@
 -- `lookup_number` meets its contract: a table as cleaned fails check 8 by its length alone.
-use mathlib.Core.Path.{refl, sym, ◌∙◌}
-use native.Mathlib.Omega.{arith}
-use borrow.Author.Rules.{rules}
+use Rattle.std.proofs.Common.{◌≡◌, ℕ, Bool, List, length, sym, ◌∙◌, refl, arith}
+use Rattle.std.proofs.lemmas.Grind.{common_steps}
 use Rattle.definition.specs.Tables.{cleaned}
+use Rattle.definition.specs.Refusals.{◌when◌else◌, bad_searched}
 use Rattle.accepted.specs.Checks.{vectors_good, degree_good, cleaned-searched}
-use Rattle.checks.specs.Lengths.{length_is}
-use Rattle.checks_number.specs.Tests.{Tests, holds_at, number_at, Clear, past_one, found, rest, early}
-use Rattle.checks_number.specs.SearchNumber.{limits_clear, search_tests, search_numbered}
+use Rattle.checks.specs.Lengths.{wrong_length, length_is}
+use Rattle.checks_number.specs.Tests.{number_of, holds_at, early}
+use Rattle.checks_number.specs.SearchNumber.{limits_clear, limits_past, search_numbered}
 use Rattle.checks_number.proofs.lookup_number.Goals as goal
 
-abbrev tests : goal.Start → Tests
-tests s =
-    let a = s.args in
-    search_tests a.n a.dim a.vectors.now a.degree a.beam a.k a.start (cleaned a.n a.table.now) a.query.now
-    a.words a.floats a.ids a.dists a.k
-
-abbrev start_1 : goal.Else-early-ne0 → goal.Start
-start_1 c = c
-
-clear_1 : (c : goal.Else-early-ne0) → Clear 5 (tests (start_1 c))
-clear_1 c = record { no = limits_clear _ _ _ _ _ _ (sym c.limits_number-early.ensures ∙ c.if-early-ne0.false) }
-
-abbrev start_2 : goal.Else-bad_length → goal.Start
-start_2 c = start_1 c
-
-clear_2 : (c : goal.Else-bad_length) → Clear 6 (tests (start_2 c))
-unfolding holds_at
-clear_2 c = past_one (clear_1 c) (c.bad_length.ensures ∙ length_is _ _ _ _ refl ∙ sym (cleaned-searched _ _ _)) c.if-bad_length.false
+-- the test of the length is the test of the table as cleaned
+searched_by_length : (n degree : ℕ) (table : List ℕ) {r : Bool} → r ≡ wrong_length n degree (length table) → r ≡ bad_searched n degree (cleaned n table)
+searched_by_length n degree table e = e ∙ length_is n degree table (length table) refl ∙ sym (cleaned-searched n degree table)
 
 pub returns-then-early-ne0 : goal.returns-then-early-ne0
 returns-then-early-ne0 c = search_numbered (early _ _ c.limits_number-early.ensures c.if-early-ne0.true)
 
 pub bad_length-requires : goal.bad_length-requires
 unfolding holds_at
-bad_length-requires c = ((vectors_good _ _ _ ((clear_1 c).no 1)).1, (let d = degree_good _ ((clear_1 c).no 2) in omega arith))
-
-pub returns-then-bad_length : goal.returns-then-bad_length
-unfolding holds_at number_at
-returns-then-bad_length c =
-    search_numbered
-    (found (clear_1 c) (c.bad_length.ensures ∙ length_is _ _ _ _ refl ∙ sym (cleaned-searched _ _ _)) c.if-bad_length.true)
+bad_length-requires c =
+    let a = c.args in let clear = limits_clear a.n a.dim a.vectors.now a.degree a.beam a.start (sym c.limits_number-early.ensures ∙ c.if-early-ne0.false) in
+    ((vectors_good a.n a.dim a.vectors.now (clear 1)).1, (let d = degree_good a.degree (clear 2) in omega arith))
 
 pub lengths_number-requires : goal.lengths_number-requires
 unfolding holds_at
-lengths_number-requires c = (vectors_good _ _ _ ((clear_2 c).no 1)).1
+lengths_number-requires c =
+    let a = c.args in let clear = limits_clear a.n a.dim a.vectors.now a.degree a.beam a.start (sym c.limits_number-early.ensures ∙ c.if-early-ne0.false) in
+    (vectors_good a.n a.dim a.vectors.now (clear 1)).1
+
+pub returns-then-bad_length : goal.returns-then-bad_length
+returns-then-bad_length c = let a = c.args in
+    let by_length = searched_by_length a.n a.degree a.table.now c.bad_length.ensures in
+    search_numbered (limits_past a.n a.dim a.vectors.now a.degree a.beam a.start _ (sym c.limits_number-early.ensures ∙ c.if-early-ne0.false)
+    (unfold number_of in unfold ◌when◌else◌ in grind (arith, common_steps)))
 
 pub returns : goal.returns
-returns c = search_numbered (rest (clear_2 c) c.lengths_number.ensures)
+returns c = let a = c.args in
+    let by_length = searched_by_length a.n a.degree a.table.now c.bad_length.ensures in
+    search_numbered (limits_past a.n a.dim a.vectors.now a.degree a.beam a.start _ (sym c.limits_number-early.ensures ∙ c.if-early-ne0.false)
+    (unfold number_of in unfold ◌when◌else◌ in grind (arith, common_steps)))

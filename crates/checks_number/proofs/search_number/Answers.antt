@@ -1,44 +1,33 @@
 -- `search_number` meets its contract.
-use mathlib.Core.Path.{sym, ◌∙◌}
-use borrow.Author.Rules.{rules}
+use Rattle.std.proofs.Common.{sym, ◌∙◌, arith}
+use Rattle.std.proofs.lemmas.Grind.{common_steps}
+use Rattle.definition.specs.Refusals.{◌when◌else◌}
 use Rattle.accepted.specs.Checks.{vectors_good, degree_good}
-use Rattle.checks_number.specs.Tests.{Tests, holds_at, number_at, Clear, past_one, found, rest, early}
-use Rattle.checks_number.specs.SearchNumber.{limits_clear, search_tests, search_numbered}
+use Rattle.checks_number.specs.Tests.{number_of, holds_at, early}
+use Rattle.checks_number.specs.SearchNumber.{limits_clear, limits_past, search_numbered}
 use Rattle.checks_number.proofs.search_number.Goals as goal
-
-abbrev tests : goal.Start → Tests
-tests s =
-    let a = s.args in
-    search_tests a.n a.dim a.vectors.now a.degree a.beam a.k a.start a.table.now a.query.now
-    a.words a.floats a.ids a.dists a.run
-
-abbrev start_1 : goal.Else-early-ne0 → goal.Start
-start_1 c = c
-
-clear_1 : (c : goal.Else-early-ne0) → Clear 5 (tests (start_1 c))
-clear_1 c = record { no = limits_clear _ _ _ _ _ _ (sym c.limits_number-early.ensures ∙ c.if-early-ne0.false) }
-
-abbrev start_2 : goal.Else-bad_searched → goal.Start
-start_2 c = start_1 c
-
-clear_2 : (c : goal.Else-bad_searched) → Clear 6 (tests (start_2 c))
-unfolding holds_at
-clear_2 c = past_one (clear_1 c) c.bad_searched.ensures c.if-bad_searched.false
 
 pub returns-then-early-ne0 : goal.returns-then-early-ne0
 returns-then-early-ne0 c = search_numbered (early _ _ c.limits_number-early.ensures c.if-early-ne0.true)
 
 pub bad_searched-requires : goal.bad_searched-requires
 unfolding holds_at
-bad_searched-requires c = ((vectors_good _ _ _ ((clear_1 c).no 1)).1, (degree_good _ ((clear_1 c).no 2)).few)
-
-pub returns-then-bad_searched : goal.returns-then-bad_searched
-unfolding holds_at number_at
-returns-then-bad_searched c = search_numbered (found (clear_1 c) c.bad_searched.ensures c.if-bad_searched.true)
+bad_searched-requires c =
+    let a = c.args in let clear = limits_clear a.n a.dim a.vectors.now a.degree a.beam a.start (sym c.limits_number-early.ensures ∙ c.if-early-ne0.false) in
+    ((vectors_good a.n a.dim a.vectors.now (clear 1)).1, (degree_good a.degree (clear 2)).few)
 
 pub lengths_number-requires : goal.lengths_number-requires
 unfolding holds_at
-lengths_number-requires c = (vectors_good _ _ _ ((clear_2 c).no 1)).1
+lengths_number-requires c =
+    let a = c.args in let clear = limits_clear a.n a.dim a.vectors.now a.degree a.beam a.start (sym c.limits_number-early.ensures ∙ c.if-early-ne0.false) in
+    (vectors_good a.n a.dim a.vectors.now (clear 1)).1
+
+pub returns-then-bad_searched : goal.returns-then-bad_searched
+returns-then-bad_searched c = let a = c.args in
+    search_numbered (limits_past a.n a.dim a.vectors.now a.degree a.beam a.start _ (sym c.limits_number-early.ensures ∙ c.if-early-ne0.false)
+    (unfold number_of in unfold ◌when◌else◌ in grind (arith, common_steps)))
 
 pub returns : goal.returns
-returns c = search_numbered (rest (clear_2 c) c.lengths_number.ensures)
+returns c = let a = c.args in
+    search_numbered (limits_past a.n a.dim a.vectors.now a.degree a.beam a.start _ (sym c.limits_number-early.ensures ∙ c.if-early-ne0.false)
+    (unfold number_of in unfold ◌when◌else◌ in grind (arith, common_steps)))

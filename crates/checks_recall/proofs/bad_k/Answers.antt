@@ -1,6 +1,5 @@
 -- `bad_k` meets its contract.
-use mathlib.Core.Path.{refl}
-use borrow.Author.Tests.{eq-eqb, ne_eqb}
+use Rattle.std.proofs.Common.{refl, eq-eqb, ne_eqb}
 use Rattle.definition.specs.Refusals.{bad_k}
 use Rattle.checks_recall.proofs.bad_k.Goals as goal
 
@@ -10,4 +9,4 @@ returns-then-k-eq0 c = rw (eq-eqb _ _ c.if-k-eq0.true) refl
 
 pub returns : goal.returns
 unfolding bad_k
-returns-then-k-eq0 c = rw (ne_eqb _ _ c.if-k-eq0.false) refl
+returns c = rw (ne_eqb _ _ c.if-k-eq0.false) refl

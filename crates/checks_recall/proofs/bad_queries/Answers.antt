@@ -1,7 +1,5 @@
 -- `bad_queries` meets its contract.
-use mathlib.Core.Path.{refl}
-use borrow.Author.Tests.{eq-eqb, ne_eqb}
-use borrow.Author.Rules.{rules}
+use Rattle.std.proofs.Common.{refl, eq-eqb, ne_eqb}
 use Rattle.checks_recall.specs.Lengths.{wrong_queries}
 use Rattle.checks_recall.proofs.bad_queries.Goals as goal
 
@@ -11,4 +9,4 @@ returns-then-left-ne0 c = rw (ne_eqb _ _ c.if-left-ne0.true) refl
 
 pub returns : goal.returns
 unfolding wrong_queries
-returns-then-left-ne0 c = rw (eq-eqb _ _ c.if-left-ne0.false) refl
+returns c = rw (eq-eqb _ _ c.if-left-ne0.false) refl

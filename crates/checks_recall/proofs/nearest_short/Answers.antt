@@ -1,7 +1,5 @@
 -- `nearest_short` meets its contract.
-use mathlib.Core.Path.{refl}
-use borrow.Author.Tests.{lt-ltb, le-ltb}
-use borrow.Author.Rules.{rules}
+use Rattle.std.proofs.Common.{refl, lt-ltb, le-ltb}
 use Rattle.checks_recall.specs.Lengths.{nearest_short}
 use Rattle.checks_recall.proofs.nearest_short.Goals as goal
 
@@ -11,4 +9,4 @@ returns-then-ids-most c = rw (← c.least-most.ensures, lt-ltb _ _ c.if-ids-most
 
 pub returns : goal.returns
 unfolding nearest_short
-returns-then-ids-most c = rw (← c.least-most.ensures, le-ltb _ _ c.if-ids-most.false) refl
+returns c = rw (← c.least-most.ensures, le-ltb _ _ c.if-ids-most.false) refl

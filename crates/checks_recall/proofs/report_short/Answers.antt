@@ -1,7 +1,5 @@
 -- `report_short` meets its contract.
-use mathlib.Core.Path.{refl}
-use borrow.Author.Tests.{lt-ltb, le-ltb}
-use borrow.Author.Rules.{rules}
+use Rattle.std.proofs.Common.{refl, lt-ltb, le-ltb}
 use Rattle.checks_recall.specs.Lengths.{report_short, report_words_lem, report_floats_lem}
 use Rattle.checks_recall.proofs.report_short.Goals as goal
 
@@ -11,4 +9,4 @@ returns-then-words-w c = rw (report_words_lem, lt-ltb _ _ c.if-words-w.true) ref
 
 pub returns : goal.returns
 unfolding report_short
-returns-then-words-w c = rw (report_words_lem, report_floats_lem, le-ltb _ _ c.if-words-w.false) refl
+returns c = rw (report_words_lem, report_floats_lem, le-ltb _ _ c.if-words-w.false) refl

@@ -1,5 +1,5 @@
 -- `kept` meets its contract: the state as it came, and the refused answer.
-use Rattle.std.proofs.Common.{ap, rules}
+use Rattle.std.proofs.Common.{ap}
 use Rattle.draws.specs.Says.{stepped}
 use Rattle.draws.proofs.kept.Goals as goal
 

@@ -1,6 +1,5 @@
 -- `from_start`, by its two cases.
 use mathlib.Core.Path.{sym, subst}
-use borrow.Author.Rules.{rules}
 use Rattle.greedy.specs.Scratch.{Ends}
 use Rattle.greedy.specs.Cases.{from_none, from_some}
 use Rattle.greedy.proofs.Runs.{start_ends}
@@ -13,9 +12,10 @@ returns-then-p-eq0 c =
 
 pub walk-requires : goal.walk-requires
 walk-requires c =
-    let rooms = c.requires.start_lt_n in record { ready = c.requires.ready; live = c.requires.live; ground = c.requires.ground; fresh_len = (rooms.1, rooms.2) }
+    let rooms = c.requires.start_lt_n in
+    record { ready = c.requires.ready; live = c.requires.live; ground = c.requires.ground; fresh_len = (rooms.1, rooms.2) }
 
 pub returns : goal.returns
-returns-then-p-eq0 c =
+returns c =
     let some = c.if-p-eq0.false in
     subst (Ends _ _ _ _ _ _) (sym (from_some _ _ _ _ some)) c.walk.ensures

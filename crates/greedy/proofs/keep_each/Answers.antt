@@ -1,9 +1,6 @@
 -- `keep_each`. The loop's invariant: those passed so far are kept.
-use Prim.Native.Nat.{◌-◌, ◌≤◌}
 use native.Mathlib.Omega.{arith}
-use lib.ListN.{length, take, length-set}
-use borrow.Author.Rules.{rules}
-use Rattle.greedy.specs.Scratch.{Keeps}
+use lib.ListN.{length-set}
 use Rattle.greedy.proofs.Listing.{keeps_none, keeps_more, keeps_all}
 use Rattle.greedy.proofs.keep_each.Goals as goal
 

@@ -1,9 +1,6 @@
 -- `touch_row`. The loop's invariant: there are as many places as there were, at least one for each word of the row.
-use mathlib.Core.Path.{◌≡◌}
-use Prim.Native.Nat.{◌-◌}
 use native.Mathlib.Omega.{arith}
-use lib.ListN.{length, length-set}
-use borrow.Author.Rules.{rules}
+use lib.ListN.{length-set}
 use Rattle.greedy.proofs.touch_row.Goals as goal
 
 pub loop-k-smaller : goal.loop-k-smaller

@@ -1,9 +1,7 @@
 -- `touch_row`. The loop's invariant: there are as many places as there were, at least one for each word of the row.
 use mathlib.Core.Path.{◌≡◌}
 use Prim.Native.Nat.{◌-◌}
-use native.Mathlib.Omega.{arith}
-use lib.ListN.{length, length-set}
-use borrow.Author.Rules.{rules}
+use lib.ListN.{length}
 use Rattle.greedy.proofs.touch_row.Given as goal
 
 abbrev pub invariant-loop-k : goal.invariant-loop-k

@@ -1,15 +1,10 @@
 -- `walk`. The loop's invariant: `left` steps of the definition, from the state where the scratch is, lead where the whole walk leads.
-use mathlib.Core.Path.{◌≡◌, ap, ◌∙◌}
-use mathlib.Core.Logic.{⊎_elim}
 use native.Mathlib.Omega.{arith}
-use lib.ListN.{length}
 use borrow.Author.Rules.{rules}
-use Rattle.definition.specs.Metric.{from_query}
-use Rattle.definition.specs.Tables.{row, cleaned}
-use Rattle.greedy.specs.Scratch.{standing}
 use Rattle.greedy.proofs.Expanding.{working}
-use Rattle.greedy.proofs.Runs.{Run, run-start, run_spent, run_halt, pop_ready, pop_live, pop_id, run_step}
+use Rattle.greedy.proofs.Runs.{run-start, run_spent, run_halt, pop_ready, pop_live, pop_id, run_step}
 use Rattle.greedy.proofs.walk.Goals as goal
+use Rattle.greedy.proofs.walk.Goals.{else-loop-left-test, then-loop-left-test+then-not-next}
 
 pub loop-left-init : goal.loop-left-init
 loop-left-init c = (omega arith, omega arith, omega arith, run-start _ _ c.requires.ready c.requires.live)
@@ -20,7 +15,13 @@ pop-next-requires c = working c.loop-left.invariant.3.live
 pub step-s-requires : goal.step-s-requires
 step-s-requires c =
     let some = c.if-not-next.false in
-    let run = c.loop-left.invariant.3 in record { ready = pop_ready run c.pop-next.ensures some; live = pop_live run c.pop-next.ensures some; ground = c.requires.ground; id_lt_n = (pop_id run c.pop-next.ensures some, omega arith, omega arith) }
+    let run = c.loop-left.invariant.3 in
+    record {
+      ready = pop_ready run c.pop-next.ensures some;
+      live = pop_live run c.pop-next.ensures some;
+      ground = c.requires.ground;
+      id_lt_n = (pop_id run c.pop-next.ensures some, omega arith, omega arith);
+    }
 
 pub loop-left-smaller : goal.loop-left-smaller
 loop-left-smaller c = omega arith
@@ -38,10 +39,7 @@ overflow_sub-expanded c = c.loop-left.invariant.3.fuel
 pub returns : goal.returns
 returns c =
     let run = c.loop-left.invariant.3 in
-    ⊎_elim (λ w. rw w.1 (run_spent run (omega (arith, w.0.left)))) (λ w. rw w.7 (run_halt run w.2.ensures w.6.taken))
-    c.loop-left-test.branch
-
-pub shape_of-keys : goal.shape_of-keys
-shape_of-keys c =
-    ⊎_elim (λ w. ap length w.1 ∙ c.loop-left.invariant.0) (λ w. ap length w.7 ∙ w.2.kept.0 ∙ c.loop-left.invariant.0)
-    c.loop-left-test.branch
+    elim c.loop-left-test.branch [
+      | else-loop-left-test w ↦ rw w.keys-is (run_spent run (omega (arith, w.loop-left-test.false)))
+      | then-loop-left-test+then-not-next w ↦ rw w.keys-is (run_halt run w.pop-next.ensures w.if-not-next.true)
+    ]

@@ -2,7 +2,6 @@
 use mathlib.Core.Path.{refl}
 use Prim.Native.Nat.{◌-◌}
 use native.Mathlib.Omega.{arith}
-use borrow.Author.Rules.{rules}
 use borrow.Author.Tests.{lt-ltb, le-ltb}
 use Rattle.kept.specs.Says.{bound_k}
 use Rattle.kept.proofs.bound_of.Goals as goal
@@ -12,8 +11,8 @@ unfolding bound_k
 returns-then-len-beam c = rw (lt-ltb c.args.len c.args.beam c.if-len-beam.true) refl
 
 pub overflow_mul-result : goal.overflow_mul-result
-overflow_mul-result c = omega (arith, c.shared_slice_known-1.given (c.args.len - 1))
+overflow_mul-result c = omega (arith, c.type_inv.keys (c.args.len - 1))
 
 pub returns : goal.returns
 unfolding bound_k
-returns-then-len-beam c = rw (le-ltb c.args.len c.args.beam c.if-len-beam.false) refl
+returns c = rw (le-ltb c.args.len c.args.beam c.if-len-beam.false) refl

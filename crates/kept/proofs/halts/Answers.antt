@@ -1,6 +1,5 @@
 -- `halts`. Each return is a case of the stop, as the definition of `halts_k` tests it.
 use mathlib.Core.Path.{refl}
-use borrow.Author.Rules.{rules}
 use borrow.Author.Tests.{lt-ltb, le-ltb, le-leb, lt-leb}
 use Rattle.kept.specs.Says.{halts_k}
 use Rattle.kept.proofs.halts.Goals as goal
@@ -17,7 +16,7 @@ returns-then-w-beam c =
 
 pub returns : goal.returns
 unfolding halts_k
-returns-then-w-d c =
+returns c =
     let a = c.args in
     rw (
       c.dist_of.ensures,

@@ -1,20 +1,21 @@
 -- `meet`. The loop's invariant: the first j were met.
 use mathlib.Core.Path.{sym, ◌∙◌}
-use Prim.Native.Nat.{ℕ, ◌-◌, ◌<◌}
+use Prim.Native.Nat.{ℕ, ◌<◌}
 use native.Mathlib.Omega.{arith}
-use borrow.Author.Rules.{rules}
-use lib.ListN.{length}
 use Rattle.laws.specs.All.{all_at}
-use Rattle.kept.specs.Says.{standing}
 use Rattle.kept.specs.Laws.{works-length}
-use Rattle.kept.proofs.Meeting.{MetTo, met_none, met_more, met_all}
+use Rattle.kept.proofs.Meeting.{met_none, met_more, met_all}
 use Rattle.kept.proofs.meet.Goals as goal
 
 pub loop-j-init : goal.loop-j-init
 loop-j-init c = met_none _ _ _ _ c.requires.ids_len c.requires.working
 
 pub admit-s-requires : goal.admit-s-requires
-admit-s-requires c = record { working = c.loop-j.invariant.working; id_bound = all_at (λ (i : ℕ). i < 65536) 0 c.args.ids.now c.requires.all c.loop-j.j c.loop-j-test.true }
+admit-s-requires c =
+    record {
+      working = c.loop-j.invariant.working;
+      id_bound = all_at (λ (i : ℕ). i < 65536) 0 c.args.ids.now c.requires.all c.loop-j.j c.loop-j-test.true;
+    }
 
 pub loop-j-smaller : goal.loop-j-smaller
 loop-j-smaller c = omega arith

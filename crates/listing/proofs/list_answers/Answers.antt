@@ -1,9 +1,9 @@
 -- `list_answers`. The loop's invariant: all before `first` are nearer than all from there on, and so many of the answers are listed.
-use Rattle.std.proofs.Common.{◌-◌, min, arith, rules}
+use Rattle.std.proofs.Common.{arith}
 use Rattle.definition.specs.Search.{ranked}
-use Rattle.listing.specs.Listed.{pairs, items_in, ListedTo}
+use Rattle.listing.specs.Listed.{pairs, items_in}
 use Rattle.listing.proofs.Copying.{listed-none, listed_at, listed_all}
-use Rattle.listing.proofs.Turning.{Parts, parts_end, ranked_length, ranked_at}
+use Rattle.listing.proofs.Turning.{parts_end, ranked_length, ranked_at}
 use Rattle.listing.proofs.list_answers.Goals as goal
 
 pub loop-first-init : goal.loop-first-init

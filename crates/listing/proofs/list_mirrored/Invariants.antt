@@ -1,11 +1,6 @@
 -- `list_mirrored`. The loop's invariant: i answers are listed.
-use Rattle.std.proofs.Common.{◌≡◌, ℕ, ◌-◌, ◌≤◌, map, get_or, take, sym, ap, ◌∙◌, arith, length-take-le, get_or-take, rules}
-use lib.ListN.{length-map}
-use Rattle.definition.specs.Metric.{whole}
-use Rattle.definition.specs.Beam.{Item, nobody}
-use Rattle.laws.specs.Mapped.{map_at}
+use Rattle.std.proofs.Common.{◌-◌, ◌≤◌, map, take}
 use Rattle.listing.specs.Listed.{pairs, mirrored_item, ListedTo}
-use Rattle.listing.proofs.Copying.{listed-none, listed_more, listed_all}
 use Rattle.listing.proofs.list_mirrored.Given as goal
 
 abbrev pub invariant-loop-i : goal.invariant-loop-i

@@ -1,5 +1,5 @@
 -- `list_run`. The loop's invariant: the run is listed as far as place i.
-use Rattle.std.proofs.Common.{◌≡◌, ℕ, ◌-◌, ◌≤◌, length, refl, ap, ◌∙◌, subst, arith, length-set, rules}
+use Rattle.std.proofs.Common.{◌≡◌, ℕ, refl, ap, ◌∙◌, subst, arith, length-set}
 use Rattle.definition.specs.Metric.{whole}
 use Rattle.listing.specs.Listed.{pairs}
 use Rattle.listing.specs.Runs.{RunListed}

@@ -1,5 +1,5 @@
 -- `run_end`. The loop's invariant: each key from `first` on up to `end` holds the distance of the first.
-use Rattle.std.proofs.Common.{◌≡◌, ℕ, ◌-◌, ◌<◌, ◌≤◌, get_or, sym, ap, ◌∙◌, arith, rules, below_more}
+use Rattle.std.proofs.Common.{◌≡◌, ℕ, ◌-◌, ◌<◌, ◌≤◌, get_or}
 use Rattle.beam.specs.Keys.{dist_of}
 use Rattle.listing.proofs.run_end.Given as goal
 

@@ -9,7 +9,11 @@ loop-k-init c = (omega arith, omega arith, gather_none _ c.requires.marked)
 
 pub note-count-requires : goal.note-count-requires
 note-count-requires c =
-    let g = c.loop-k.invariant.2 in record { marked = g.marked; count_in_bounds = omega (arith, c.requires.row_in_bounds, gather_fits c.args.row.now c.loop-k.k g (omega arith)) }
+    let g = c.loop-k.invariant.2 in
+    record {
+      marked = g.marked;
+      count_in_bounds = omega (arith, c.requires.row_in_bounds, gather_fits c.args.row.now c.loop-k.k g (omega arith));
+    }
 
 pub loop-k-smaller : goal.loop-k-smaller
 loop-k-smaller c = omega arith

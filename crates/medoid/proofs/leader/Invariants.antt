@@ -1,11 +1,8 @@
 -- `leader` meets its contract. The invariant: the leader of the entries before i, against those from i on, leads to the medoid.
-use mathlib.Core.Logic.{⊎_elim}
-use Prim.Native.Nat.{◌-◌}
-use native.Mathlib.Omega.{arith}
-use borrow.Author.Rules.{rules}
+use Rattle.std.proofs.Common.{◌-◌}
 use Rattle.definition.specs.Metric.{between}
 use Rattle.definition.specs.Medoid.{score, medoid}
-use Rattle.medoid.specs.Turns.{Leading, lead_start, lead_taken, lead_kept, lead_end}
+use Rattle.medoid.specs.Turns.{Leading}
 use Rattle.medoid.proofs.leader.Given as goal
 
 abbrev pub invariant-loop-i : goal.invariant-loop-i

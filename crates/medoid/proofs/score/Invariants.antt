@@ -1,14 +1,7 @@
 -- `score` meets its contract. The invariant: what is added, with the pivots from j on, is the whole score.
-use mathlib.Core.Path.{◌≡◌}
-use Prim.Native.Nat.{◌-◌}
-use native.Mathlib.Omega.{arith}
-use borrow.Author.Rules.{rules}
-use lib.ListN.{length, drop}
-use Rattle.definition.specs.Metric.{between, whole}
+use Rattle.std.proofs.Common.{◌≡◌, ◌-◌, length, drop}
+use Rattle.definition.specs.Metric.{between}
 use Rattle.definition.specs.Medoid.{score_from, score}
-use Rattle.definition.specs.Floats.{nought}
-use Rattle.metric.specs.Laws.{exact_in_float, vector_in}
-use Rattle.medoid.specs.Turns.{score-start, score-turn, score_end}
 use Rattle.medoid.proofs.score.Given as goal
 
 abbrev pub invariant-loop-j : goal.invariant-loop-j

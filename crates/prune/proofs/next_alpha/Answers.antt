@@ -1,7 +1,6 @@
 -- `next_alpha` meets its contract.
 use Rattle.definition.specs.Floats.{smaller, times}
 use Rattle.definition.specs.Prune.{next_alpha}
-use borrow.Author.Rules.{rules}
 use Rattle.prune.proofs.next_alpha.Goals as goal
 
 pub returns-then-target-raised : goal.returns-then-target-raised

@@ -1,7 +1,6 @@
 -- `prune_into` meets its contract. The lent stretch came back as the row; nothing else differs.
 use native.Mathlib.Omega.{arith}
 use Rattle.table.specs.Rows.{stretched, stretch_length}
-use borrow.Author.Rules.{rules}
 use Rattle.prune.proofs.prune_into.Goals as goal
 
 pub prune_neighbors-requires : goal.prune_neighbors-requires

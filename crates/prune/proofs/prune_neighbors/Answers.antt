@@ -5,7 +5,6 @@ use native.Mathlib.Omega.{arith}
 use lib.ListN.{length}
 use Rattle.laws.specs.Parts.{part_front_length}
 use Rattle.prune.specs.Composed.{as_pool, front_length, measurable, pruned}
-use borrow.Author.Rules.{rules}
 use Rattle.prune.proofs.prune_neighbors.Goals as goal
 
 pub choose-count-requires : goal.choose-count-requires

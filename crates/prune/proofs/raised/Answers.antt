@@ -1,7 +1,6 @@
 -- `raised` meets its contract.
 use mathlib.Core.Path.{refl}
 use Rattle.definition.specs.Floats.{larger}
-use borrow.Author.Rules.{rules}
 use Rattle.prune.proofs.raised.Goals as goal
 
 pub returns-then-factor-q : goal.returns-then-factor-q

@@ -1,5 +1,4 @@
 -- `shade_later` meets its contract. The part lent as the query is the taken entry's vector.
-use borrow.Author.Rules.{rules}
 use Rattle.metric.specs.Laws.{lent_vector, lent_length}
 use Rattle.prune.proofs.shade_later.Goals as goal
 

@@ -1,11 +1,9 @@
 -- `shade_rest` meets its contract. The factors shaded from place j on are, at every turn, what they are to become.
 use mathlib.Core.Path.{sym, subst}
-use Prim.Native.Nat.{ℕ, ◌-◌, ◌≤◌, ◌<◌}
+use Prim.Native.Nat.{ℕ, ◌≤◌, ◌<◌}
 use native.Mathlib.Omega.{arith}
 use lib.ListN.{length}
-use borrow.Author.Rules.{rules}
-use borrow.Author.Tests.{not-true, not-false}
-use Rattle.prune.proofs.Shading.{Shading, shading_start, shading_raise, shading_skip, shading_end}
+use Rattle.prune.proofs.Shading.{shading_start, shading_raise, shading_skip, shading_end}
 use Rattle.laws.specs.All.{all_at}
 use Rattle.whole.specs.Whole.{limit}
 use Rattle.metric.specs.Exact.{VectorIn}
@@ -24,9 +22,6 @@ raised-requires c =
     let apart = c.from_query-apart.ensures in
     let near = all_at (λ (d : ℕ). d ≤ limit) 0 c.args.dists.now c.requires.measurable.small c.loop-j.j (omega (arith, c.requires.measurable.same)) in
     (near, omega (arith, apart.is, apart.small))
-
-pub loop-j-smaller : goal.loop-j-smaller
-loop-j-smaller c = omega arith
 
 pub loop-j-preserved : goal.loop-j-preserved
 loop-j-preserved c =

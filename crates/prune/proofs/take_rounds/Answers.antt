@@ -1,15 +1,12 @@
 -- `take_rounds` meets its contract. The ids taken so far, and what the rest of this round and the rounds after it take, make up the result.
 use mathlib.Core.Path.{sym, ◌∙◌, subst}
-use Prim.Native.Nat.{◌-◌, ◌<◌}
+use Prim.Native.Nat.{◌<◌}
 use native.Mathlib.Omega.{arith}
 use lib.ListN.{length, length-set}
 use Rattle.laws.specs.All.{all_at}
 use Rattle.metric.specs.Exact.{VectorIn}
-use Rattle.prune.specs.Says.{rounds_of}
 use Rattle.definition.specs.Floats.{largest}
-use Rattle.prune.proofs.Steps.{from_round, Walk, Going, walk_same, going_first, walk_skip, walk_take, walk_first, full, last_round, reached, again}
-use borrow.Author.Rules.{rules}
-use borrow.Author.Tests.{not-true, not-false}
+use Rattle.prune.proofs.Steps.{walk_same, going_first, walk_skip, walk_take, walk_first, full, last_round, reached, again}
 use Rattle.prune.proofs.take_rounds.Goals as goal
 use Rattle.prune.proofs.take_rounds.Goals.{then-not-current-factors, else-not-current-factors}
 
@@ -24,9 +21,6 @@ pub shade_later-requires : goal.shade_later-requires
 shade_later-requires c =
     let l = c.loop-i in
     let In = VectorIn c.args.dim c.args.vectors.now in record { measurable = c.requires.measurable; factors_len = (length-set l.factors l.i _ ∙ l.invariant.nf, omega arith); vector_in = subst In (sym c.index_of-taken.ensures) (all_at In 0 c.args.ids.now c.requires.measurable.rows l.i (omega arith)) }
-
-pub loop-i-smaller : goal.loop-i-smaller
-loop-i-smaller c = omega arith
 
 pub loop-i-preserved : goal.loop-i-preserved
 unfolding largest
@@ -44,9 +38,6 @@ loop-i-preserved c =
       | else-not-current-factors w ↦
           walk_same w.factors-is w.row-is w.count-is (walk_skip same l.invariant h room w.if-not-current-factors.false)
     ]
-
-pub rounds-smaller : goal.rounds-smaller
-rounds-smaller c = omega arith
 
 pub rounds-preserved : goal.rounds-preserved
 rounds-preserved c =

@@ -1,16 +1,8 @@
 -- `take_rounds` meets its contract. The ids taken so far, and what the rest of this round and the rounds after it take, make up the result.
-use mathlib.Core.Path.{sym, ◌∙◌, subst}
-use mathlib.Core.Logic.{⊎_elim}
-use Prim.Native.Nat.{◌-◌, ◌<◌}
-use native.Mathlib.Omega.{arith}
-use lib.ListN.{length, length-set}
-use Rattle.laws.specs.All.{all_at}
-use Rattle.metric.specs.Exact.{VectorIn}
+use Prim.Native.Nat.{◌-◌}
+use lib.ListN.{length}
 use Rattle.prune.specs.Says.{rounds_of}
-use Rattle.definition.specs.Floats.{largest}
-use Rattle.prune.proofs.Steps.{from_round, Walk, Going, walk_same, going_first, walk_skip, walk_take, walk_first, full, last_round, reached, again}
-use borrow.Author.Rules.{rules}
-use borrow.Author.Tests.{not-true, not-false}
+use Rattle.prune.proofs.Steps.{from_round, Walk, Going}
 use Rattle.prune.proofs.take_rounds.Given as goal
 
 abbrev pub invariant-loop-i : goal.invariant-loop-i

@@ -4,7 +4,6 @@ use Prim.Native.Nat.{ℕ}
 use lib.ListN.{replicate}
 use Rattle.definition.specs.Floats.{nought}
 use Rattle.prune.proofs.Filling.{written}
-use borrow.Author.Rules.{rules}
 use Rattle.prune.proofs.write_pruned.Goals as goal
 
 pub returns : goal.returns

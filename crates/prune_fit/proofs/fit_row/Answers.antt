@@ -17,7 +17,12 @@ returns-then-m-width c = fits_short _ _ _ _ _ _ c.index_of-place.ensures (omega 
 
 pub measure-requires : goal.measure-requires
 measure-requires c =
-    let f = c.requires.fittable in record { dim_bound = omega arith; vector_in = node_reaches f c.index_of-place.ensures; by_index = ids_reach f }
+    let f = c.requires.fittable in
+    record {
+      dim_bound = omega arith;
+      vector_in = node_reaches f c.index_of-place.ensures;
+      by_index = ids_reach f;
+    }
 
 pub prune_into-requires : goal.prune_into-requires
 prune_into-requires c =

@@ -1,7 +1,5 @@
 -- `is_hit`, by its two cases.
-use mathlib.Core.Path.{sym, ap}
-use native.Mathlib.Omega.{arith}
-use borrow.Author.Tests.{eq-eqb, ne_eqb}
+use Rattle.std.proofs.Common.{sym, ap, arith, eq-eqb, ne_eqb}
 use Rattle.laws.specs.Sums.{bit}
 use Rattle.recall.proofs.is_hit.Goals as goal
 

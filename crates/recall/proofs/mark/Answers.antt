@@ -1,25 +1,16 @@
 -- `mark`. The loop's invariant: the words are the marks of the first j ids.
-use mathlib.Core.Path.{◌≡◌, refl}
-use Prim.Native.Nat.{◌-◌, ◌≤◌}
-use native.Mathlib.Omega.{arith}
-use borrow.Author.Rules.{rules}
-use Rattle.recall.proofs.Marking.{Marking, mark_start, mark_more}
+use Rattle.std.proofs.Common.{◌≡◌, refl, arith}
+use Rattle.recall.proofs.Marking.{mark_start, mark_more}
 use Rattle.recall.proofs.mark.Goals as goal
 
 pub loop-j-init : goal.loop-j-init
 loop-j-init c = (omega arith, mark_start _ _ _ c.requires.unmarked)
-
-pub overflow_cast-i : goal.overflow_cast-i
-overflow_cast-i c = omega (arith, c.shared_slice_known-1.given c.loop-j.j)
 
 pub offset_bounds-words-i : goal.offset_bounds-words-i
 offset_bounds-words-i c = omega (arith, c.requires.places.inside c.loop-j.j (omega arith))
 
 pub bounds-words-i : goal.bounds-words-i
 bounds-words-i c = omega (arith, c.requires.places.inside c.loop-j.j (omega arith))
-
-pub loop-j-smaller : goal.loop-j-smaller
-loop-j-smaller c = omega arith
 
 pub loop-j-preserved : goal.loop-j-preserved
 loop-j-preserved c = (omega arith, mark_more _ _ _ _ _ (omega (arith, c.requires.places.few)) _ refl c.loop-j.invariant.1)

@@ -1,9 +1,6 @@
 -- `mark`. The loop's invariant: the words are the marks of the first j ids.
-use mathlib.Core.Path.{◌≡◌, refl}
-use Prim.Native.Nat.{◌-◌, ◌≤◌}
-use native.Mathlib.Omega.{arith}
-use borrow.Author.Rules.{rules}
-use Rattle.recall.proofs.Marking.{Marking, mark_start, mark_more}
+use Rattle.std.proofs.Common.{◌-◌, ◌≤◌}
+use Rattle.recall.proofs.Marking.{Marking}
 use Rattle.recall.proofs.mark.Given as goal
 
 abbrev pub invariant-loop-j : goal.invariant-loop-j

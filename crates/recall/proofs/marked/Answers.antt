@@ -1,29 +1,16 @@
 -- `marked`. The loop's invariant: the sum is how many of the first j ids have the epoch as their mark: at most j, so that it fits.
-use mathlib.Core.Path.{◌≡◌}
-use Prim.Native.Nat.{◌-◌, ◌≤◌}
-use native.Mathlib.Omega.{arith}
-use lib.ListN.{take}
-use borrow.Author.Rules.{rules}
-use Rattle.recall.specs.Marks.{Counted}
+use Rattle.std.proofs.Common.{◌≡◌, arith}
 use Rattle.recall.proofs.Marking.{count-start, count_more}
 use Rattle.recall.proofs.marked.Goals as goal
 
 pub loop-j-init : goal.loop-j-init
 loop-j-init c = (omega arith, omega arith, count-start _ _)
 
-pub overflow_cast-i : goal.overflow_cast-i
-overflow_cast-i c = omega (arith, c.shared_slice_known-in-loop-j-1.given c.loop-j.j)
-
 pub offset_bounds-words-i : goal.offset_bounds-words-i
-offset_bounds-words-i c =
-    omega (arith, c.requires.inside c.loop-j.j (omega arith))
+offset_bounds-words-i c = omega (arith, c.requires.inside c.loop-j.j (omega arith))
 
 pub bounds-words-i : goal.bounds-words-i
-bounds-words-i c =
-    omega (arith, c.requires.inside c.loop-j.j (omega arith))
-
-pub loop-j-smaller : goal.loop-j-smaller
-loop-j-smaller c = omega arith
+bounds-words-i c = omega (arith, c.requires.inside c.loop-j.j (omega arith))
 
 pub loop-j-preserved : goal.loop-j-preserved
 loop-j-preserved c =

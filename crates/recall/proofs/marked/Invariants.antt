@@ -1,11 +1,6 @@
 -- `marked`. The loop's invariant: the sum is how many of the first j ids have the epoch as their mark: at most j, so that it fits.
-use mathlib.Core.Path.{◌≡◌}
-use Prim.Native.Nat.{◌-◌, ◌≤◌}
-use native.Mathlib.Omega.{arith}
-use lib.ListN.{take}
-use borrow.Author.Rules.{rules}
+use Rattle.std.proofs.Common.{◌-◌, ◌≤◌, take}
 use Rattle.recall.specs.Marks.{Counted}
-use Rattle.recall.proofs.Marking.{count-start, count_more}
 use Rattle.recall.proofs.marked.Given as goal
 
 abbrev pub invariant-loop-j : goal.invariant-loop-j

@@ -1,6 +1,5 @@
 -- `fit`. Its number is all that it says.
 use mathlib.Core.Path.{ap, ◌∙◌}
-use borrow.Author.Rules.{rules}
 use Rattle.definition.specs.Outcome.{refused, fit_out}
 use Rattle.search.proofs.fit.Goals as goal
 

@@ -2,11 +2,12 @@
 use Rattle.definition.specs.Refusals.{SearchCall}
 use Rattle.definition.specs.Outcome.{cleaned_call}
 use Rattle.checks_number.specs.SearchNumber.{call_of}
-use borrow.Author.Rules.{rules}
+use Rattle.search.specs.Statement.{searched-same, beside-accepted, search_refused, search_done_lem, lookup_meets}
 use Rattle.search.proofs.lookup.Goals as goal
+use Rattle.search.proofs.lookup.Goals.{Start}
 
 -- the call, as cleaned
-abbrev asked : goal.Start → SearchCall
+abbrev asked : Start → SearchCall
 asked s =
     let a = s.args in
     cleaned_call (call_of a.n a.dim a.vectors.now a.degree a.beam a.k a.start a.table.now a.query.now
@@ -15,16 +16,19 @@ asked s =
 pub returns-then-refusal-ne0 : goal.returns-then-refusal-ne0
 unfolding cleaned_call
 returns-then-refusal-ne0 c =
-    lookup_meets _ _ (search_refused (asked c) _ c.lookup_number_lem.ensures c.if-refusal-ne0.true _ c.refused.ensures)
+    let s = (goal.at.returns-then-refusal-ne0 c).Start in
+    lookup_meets _ _ (search_refused (asked s) _ c.lookup_number-refusal.ensures c.if-refusal-ne0.true _ c.refused.ensures)
 
 pub lookup_accepted-found-requires : goal.lookup_accepted-found-requires
 unfolding cleaned_call
 lookup_accepted-found-requires c =
-    (beside-accepted (asked c) _ _ c.lookup_number_lem.ensures c.if-refusal-ne0.false).0
+    let s = (goal.at.lookup_accepted-found-requires c).Start in
+    (beside-accepted (asked s) _ _ c.lookup_number-refusal.ensures c.if-refusal-ne0.false).0
 
 pub returns : goal.returns
 unfolding cleaned_call
-returns-then-refusal-ne0 c =
+returns c =
+    let s = (goal.at.returns c).Start in
     lookup_meets _ _
-    (search_done_lem (asked c) _ c.lookup_number_lem.ensures c.if-refusal-ne0.false _
+    (search_done_lem (asked s) _ c.lookup_number-refusal.ensures c.if-refusal-ne0.false _
     (searched-same c.searched.ensures c.lookup_accepted-found.ensures))

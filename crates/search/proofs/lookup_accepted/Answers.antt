@@ -6,20 +6,14 @@ use Rattle.checks_number.specs.SearchNumber.{call_of}
 use Rattle.search.proofs.Passing.{walk_room, wipe_room, done}
 use borrow.Author.Rules.{rules}
 use Rattle.search.proofs.lookup_accepted.Goals as goal
+use Rattle.search.proofs.lookup_accepted.Goals.{Start}
 
 -- the call, as cleaned
-abbrev asked : goal.Start → SearchCall
+abbrev asked : Start → SearchCall
 asked s =
     let a = s.args in
     cleaned_call (call_of a.n a.dim a.vectors.now a.degree a.beam a.k a.start a.table.now a.query.now
     a.words.now a.floats.now a.ids.now a.dists.now)
-
--- back to the entry from the cleared marks, and to these from the walk
-abbrev called : goal.After-first_epoch-epoch → goal.Start
-called c = c
-
-abbrev marked : goal.After-walk_answers-found → goal.After-first_epoch-epoch
-marked c = c
 
 pub first_epoch-epoch-requires : goal.first_epoch-epoch-requires
 unfolding cleaned_call
@@ -28,24 +22,23 @@ first_epoch-epoch-requires c = search rules
 pub walk_answers-found-requires : goal.walk_answers-found-requires
 unfolding cleaned_call
 walk_answers-found-requires c =
-    let s = called c in
-    walk_room (asked s) s.pre _ _ c.first_epoch-epoch.ensures
+    let s = (goal.at.walk_answers-found-requires c).Start in
+    let room = walk_room (asked s) s.requires _ _ c.first_epoch-epoch.ensures in
+    record { walkable = room.0; epoch_bound = room.1 }
 
 pub wipe-requires : goal.wipe-requires
 unfolding cleaned_call
 wipe-requires c =
-    let m = marked c in
-    let s = called m in
-    wipe_room (asked s) s.pre _ _ m.first_epoch-epoch.ensures _ _ _ c.walk_answers-found.ensures
+    let s = (goal.at.wipe-requires c).Start in
+    wipe_room (asked s) s.requires _ _ c.first_epoch-epoch.ensures _ _ _ c.walk_answers-found.ensures
 
 pub shape_of-words : goal.shape_of-words
 unfolding cleaned_call
 shape_of-words c =
-    c.wipe.auto.words ∙ c.walk_answers-found.ensures.kept.size ∙ (marked c).first-epoch.ensures.kept.size
+    c.wipe.auto.words ∙ c.walk_answers-found.ensures.kept.size ∙ c.first_epoch-epoch.ensures.kept.size
 
 pub returns : goal.returns
 unfolding cleaned_call
 returns c =
-    let m = marked c in
-    let s = called m in
-    done (asked s) s.pre _ _ m.first_epoch-epoch.ensures _ _ _ c.walk_answers-found.ensures _ c.wipe.ensures
+    let s = (goal.at.returns c).Start in
+    done (asked s) s.requires _ _ c.first_epoch-epoch.ensures _ _ _ c.walk_answers-found.ensures _ c.wipe.ensures

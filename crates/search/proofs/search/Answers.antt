@@ -1,11 +1,12 @@
 -- `search`. It is refused by its number, or accepted.
 use Rattle.definition.specs.Refusals.{SearchCall}
 use Rattle.checks_number.specs.SearchNumber.{call_of}
-use borrow.Author.Rules.{rules}
+use Rattle.search.specs.Statement.{beside-accepted, search_refused, search_done_lem}
 use Rattle.search.proofs.search.Goals as goal
+use Rattle.search.proofs.search.Goals.{Start}
 
 -- the call
-abbrev asked : goal.Start → SearchCall
+abbrev asked : Start → SearchCall
 asked s =
     let a = s.args in
     call_of a.n a.dim a.vectors.now a.degree a.beam a.k a.start a.table.now a.query.now
@@ -13,12 +14,12 @@ asked s =
 
 pub returns-then-number-ne0 : goal.returns-then-number-ne0
 returns-then-number-ne0 c =
-    search_refused (asked c) _ c.search_number_lem.ensures c.if-number-ne0.true _ c.refused.ensures
+    search_refused (asked (goal.at.returns-then-number-ne0 c).Start) _ c.search_number-number.ensures c.if-number-ne0.true _ c.refused.ensures
 
 pub search_accepted-requires : goal.search_accepted-requires
 search_accepted-requires c =
-    (beside-accepted (asked c) _ _ c.search_number_lem.ensures c.if-number-ne0.false).0
+    (beside-accepted (asked (goal.at.search_accepted-requires c).Start) _ _ c.search_number-number.ensures c.if-number-ne0.false).0
 
 pub returns : goal.returns
-returns-then-number-ne0 c =
-    search_done_lem (asked c) _ c.search_number_lem.ensures c.if-number-ne0.false _ c.search_accepted.ensures
+returns c =
+    search_done_lem (asked (goal.at.returns c).Start) _ c.search_number-number.ensures c.if-number-ne0.false _ c.search_accepted.ensures

@@ -1,20 +1,20 @@
 -- `search_accepted`. Its table keeps the search rule, so that the call as cleaned is the call.
 use Rattle.definition.specs.Refusals.{SearchCall}
 use Rattle.checks_number.specs.SearchNumber.{call_of}
-use borrow.Author.Rules.{rules}
+use Rattle.search.specs.Statement.{searched-same, cleaned_accepted, cleaned-searched}
 use Rattle.search.proofs.search_accepted.Goals as goal
+use Rattle.search.proofs.search_accepted.Goals.{Start}
 
 -- the call
-abbrev asked : goal.Start → SearchCall
+abbrev asked : Start → SearchCall
 asked s =
     let a = s.args in
     call_of a.n a.dim a.vectors.now a.degree a.beam a.k a.start a.table.now a.query.now
     a.words.now a.floats.now a.ids.now a.dists.now
 
 pub lookup_accepted-found-requires : goal.lookup_accepted-found-requires
-lookup_accepted-found-requires c =
-    cleaned_accepted (asked c) c.requires
+lookup_accepted-found-requires c = cleaned_accepted (asked (goal.at.lookup_accepted-found-requires c).Start) c.requires
 
 pub returns : goal.returns
 returns c =
-    searched-same c.searched.ensures (cleaned-searched (asked c) c.requires _ c.lookup_accepted-found.ensures)
+    searched-same c.searched.ensures (cleaned-searched (asked (goal.at.returns c).Start) c.requires _ c.lookup_accepted-found.ensures)

@@ -1,6 +1,5 @@
 -- `wipe`. The two fronts that are cleared are the stated room.
 use Rattle.search.proofs.Wiping.{wiped}
-use borrow.Author.Rules.{rules}
 use Rattle.search.proofs.wipe.Goals as goal
 
 pub returns : goal.returns

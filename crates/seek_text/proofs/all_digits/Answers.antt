@@ -1,12 +1,6 @@
 -- `all_digits`: the bytes before i are digits, so that the test of those from i on is the test of all.
 use mathlib.Core.Path.{sym, ◌∙◌}
-use Prim.Native.Nat.{◌-◌}
-use native.Mathlib.Omega.{arith}
-use lib.ListN.{length}
-use borrow.Author.Rules.{rules}
-use Rattle.seek_text.proofs.Words.{Passed, passed_start, passed_on, passed_fail, passed_end}
-use Rattle.definition.specs.Seek.{is_digit}
-use borrow.Author.Tests.{not-true, not-false}
+use Rattle.seek_text.proofs.Words.{passed_start, passed_on, passed_fail, passed_end}
 use Rattle.seek_text.proofs.all_digits.Goals as goal
 
 pub loop-i-init : goal.loop-i-init
@@ -14,11 +8,11 @@ loop-i-init c = passed_start
 
 pub returns-then-not-is_digit : goal.returns-then-not-is_digit
 returns-then-not-is_digit c =
-    passed_fail c.loop-i.invariant c.loop-i-test.true (sym c.is_digit.ensures ∙ not-true _ c.if-not-is_digit.true)
+    passed_fail c.loop-i.invariant c.loop-i-test.true (sym c.is_digit.ensures ∙ c.if-not-is_digit.true)
 
 pub loop-i-preserved : goal.loop-i-preserved
 loop-i-preserved c =
-    passed_on c.loop-i.invariant c.loop-i-test.true (sym c.is_digit.ensures ∙ not-false _ c.if-not-is_digit.false)
+    passed_on c.loop-i.invariant c.loop-i-test.true (sym c.is_digit.ensures ∙ c.if-not-is_digit.false)
 
 pub returns : goal.returns
 returns c = passed_end c.loop-i.invariant c.loop-i-test.false

@@ -1,12 +1,8 @@
 -- `all_digits`: the bytes before i are digits, so that the test of those from i on is the test of all.
-use mathlib.Core.Path.{sym, ◌∙◌}
 use Prim.Native.Nat.{◌-◌}
-use native.Mathlib.Omega.{arith}
 use lib.ListN.{length}
-use borrow.Author.Rules.{rules}
-use Rattle.seek_text.proofs.Words.{Passed, passed_start, passed_on, passed_fail, passed_end}
+use Rattle.seek_text.proofs.Words.{Passed}
 use Rattle.definition.specs.Seek.{is_digit}
-use borrow.Author.Tests.{not-true, not-false}
 use Rattle.seek_text.proofs.all_digits.Given as goal
 
 abbrev pub invariant-loop-i : goal.invariant-loop-i

@@ -1,12 +1,6 @@
 -- `are_row_words`: the values before i are words of a row, so that the test of those from i on is the test of all.
 use mathlib.Core.Path.{sym, ◌∙◌}
-use Prim.Native.Nat.{◌-◌}
-use native.Mathlib.Omega.{arith}
-use lib.ListN.{length}
-use borrow.Author.Rules.{rules}
-use Rattle.seek_text.proofs.Words.{Passed, passed_start, passed_on, passed_fail, passed_end}
-use Rattle.definition.specs.Seek.{is_row_word}
-use borrow.Author.Tests.{not-true, not-false}
+use Rattle.seek_text.proofs.Words.{passed_start, passed_on, passed_fail, passed_end}
 use Rattle.seek_text.proofs.are_row_words.Goals as goal
 
 pub loop-i-init : goal.loop-i-init
@@ -14,11 +8,11 @@ loop-i-init c = passed_start
 
 pub returns-then-not-is_row_word : goal.returns-then-not-is_row_word
 returns-then-not-is_row_word c =
-    passed_fail c.loop-i.invariant c.loop-i-test.true (sym c.is_row_word.ensures ∙ not-true _ c.if-not-is_row_word.true)
+    passed_fail c.loop-i.invariant c.loop-i-test.true (sym c.is_row_word.ensures ∙ c.if-not-is_row_word.true)
 
 pub loop-i-preserved : goal.loop-i-preserved
 loop-i-preserved c =
-    passed_on c.loop-i.invariant c.loop-i-test.true (sym c.is_row_word.ensures ∙ not-false _ c.if-not-is_row_word.false)
+    passed_on c.loop-i.invariant c.loop-i-test.true (sym c.is_row_word.ensures ∙ c.if-not-is_row_word.false)
 
 pub returns : goal.returns
 returns c = passed_end c.loop-i.invariant c.loop-i-test.false

@@ -1,12 +1,8 @@
 -- `are_row_words`: the values before i are words of a row, so that the test of those from i on is the test of all.
-use mathlib.Core.Path.{sym, ◌∙◌}
 use Prim.Native.Nat.{◌-◌}
-use native.Mathlib.Omega.{arith}
 use lib.ListN.{length}
-use borrow.Author.Rules.{rules}
-use Rattle.seek_text.proofs.Words.{Passed, passed_start, passed_on, passed_fail, passed_end}
+use Rattle.seek_text.proofs.Words.{Passed}
 use Rattle.definition.specs.Seek.{is_row_word}
-use borrow.Author.Tests.{not-true, not-false}
 use Rattle.seek_text.proofs.are_row_words.Given as goal
 
 abbrev pub invariant-loop-i : goal.invariant-loop-i

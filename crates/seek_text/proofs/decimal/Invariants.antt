@@ -1,9 +1,7 @@
 -- `decimal`: the first i digits say v, which stays below 10 to the i.
 use Prim.Native.Nat.{◌-◌}
-use native.Mathlib.Omega.{arith}
 use lib.ListN.{length}
-use borrow.Author.Rules.{rules}
-use Rattle.seek_text.proofs.Words.{Decimal, decimal-start, decimal_small, decimal_on, decimal_end, digit_at}
+use Rattle.seek_text.proofs.Words.{Decimal}
 use Rattle.seek_text.proofs.decimal.Given as goal
 
 abbrev pub invariant-loop-i : goal.invariant-loop-i

@@ -1,6 +1,4 @@
 -- `is_dash`: a word of one byte, and that byte.
-use Prim.Native.Nat.{◌-◌}
-use borrow.Author.Rules.{rules}
 use Rattle.seek_text.proofs.Words.{dash_one, dash_none}
 use Rattle.seek_text.proofs.is_dash.Goals as goal
 

@@ -1,8 +1,6 @@
 -- `is_decimal`: the definition's three tests, one after another.
-use Prim.Native.Nat.{◌-◌}
 use native.Mathlib.Omega.{arith}
 use lib.ListN.{length}
-use borrow.Author.Rules.{rules}
 use Rattle.definition.specs.Seek.{is_decimal}
 use borrow.Author.Tests.{lt-ltb, le-leb, lt-leb}
 use Rattle.seek_text.proofs.is_decimal.Goals as goal

@@ -1,5 +1,4 @@
 -- `is_digit`: the definition's two tests, one after the other.
-use Prim.Native.Nat.{◌-◌}
 use Rattle.definition.specs.Seek.{is_digit}
 use borrow.Author.Tests.{le-leb, lt-leb}
 use Rattle.seek_text.proofs.is_digit.Goals as goal

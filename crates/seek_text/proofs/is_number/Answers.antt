@@ -1,6 +1,5 @@
 -- `is_number`: the definition's own test.
 use mathlib.Core.Path.{refl}
-use Prim.Native.Nat.{◌-◌}
 use Rattle.definition.specs.Seek.{is_number}
 use Rattle.seek_text.proofs.is_number.Goals as goal
 

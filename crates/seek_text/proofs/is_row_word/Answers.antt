@@ -1,7 +1,5 @@
 -- `is_row_word`: the definition's two tests, one after the other.
 use mathlib.Core.Path.{sym, ◌∙◌}
-use Prim.Native.Nat.{◌-◌}
-use borrow.Author.Rules.{rules}
 use Rattle.definition.specs.Tables.{pad}
 use Rattle.definition.specs.Seek.{is_row_word}
 use Rattle.seek_text.proofs.is_row_word.Goals as goal

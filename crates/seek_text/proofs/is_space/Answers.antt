@@ -1,5 +1,4 @@
 -- `is_space`: the definition's two tests, one after the other.
-use Prim.Native.Nat.{◌-◌}
 use Rattle.definition.specs.Seek.{splits}
 use borrow.Author.Tests.{eq-eqb, ne_eqb}
 use Rattle.seek_text.proofs.is_space.Goals as goal

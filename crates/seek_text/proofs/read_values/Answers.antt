@@ -1,10 +1,7 @@
 -- `read_values`: the values so far, and what the words from `at` on say, are the values of the text.
 use mathlib.Core.Path.{sym, ◌∙◌}
-use Prim.Native.Nat.{◌-◌}
 use native.Mathlib.Omega.{arith}
-use lib.ListN.{length}
-use borrow.Author.Rules.{rules}
-use Rattle.seek_text.proofs.Words.{Reading, reading-start, reading_skip, reading_word, reading_end}
+use Rattle.seek_text.proofs.Words.{reading-start, reading_skip, reading_word, reading_end}
 use Rattle.seek_text.proofs.read_values.Goals as goal
 
 pub loop-at-init : goal.loop-at-init

@@ -1,5 +1,4 @@
 -- `small_enough`: three products, none of which wraps, for the factors are below 100,000.
-use Prim.Native.Nat.{◌-◌}
 use native.Mathlib.Omega.{arith}
 use Rattle.seek_text.proofs.Forms.{product-few}
 use borrow.Author.Tests.{le-leb, lt-leb}

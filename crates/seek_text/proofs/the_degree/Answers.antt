@@ -1,6 +1,4 @@
 -- `the_degree`: the third value.
-use Prim.Native.Nat.{◌-◌}
-use borrow.Author.Rules.{rules}
 use Rattle.definition.specs.Seek.{the_degree}
 use Rattle.seek_text.proofs.the_degree.Goals as goal
 

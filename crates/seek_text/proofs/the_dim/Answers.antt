@@ -1,6 +1,4 @@
 -- `the_dim`: the second value.
-use Prim.Native.Nat.{◌-◌}
-use borrow.Author.Rules.{rules}
 use Rattle.definition.specs.Seek.{the_dim}
 use Rattle.seek_text.proofs.the_dim.Goals as goal
 

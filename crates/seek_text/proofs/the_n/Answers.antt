@@ -1,6 +1,4 @@
 -- `the_n`: the first value.
-use Prim.Native.Nat.{◌-◌}
-use borrow.Author.Rules.{rules}
 use Rattle.definition.specs.Seek.{the_n}
 use Rattle.seek_text.proofs.the_n.Goals as goal
 

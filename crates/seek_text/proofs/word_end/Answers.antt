@@ -1,10 +1,6 @@
 -- `word_end`: the word that began at `at` has reached `end`; it is over at a space or at the end of the text.
 use mathlib.Core.Path.{sym, ◌∙◌}
-use Prim.Native.Nat.{◌-◌}
-use native.Mathlib.Omega.{arith}
-use lib.ListN.{length}
-use borrow.Author.Rules.{rules}
-use Rattle.seek_text.proofs.Words.{Growing, growing_start, growing_on, growing_stop, growing_end}
+use Rattle.seek_text.proofs.Words.{growing_start, growing_on, growing_stop, growing_end}
 use Rattle.seek_text.proofs.word_end.Goals as goal
 
 pub loop-end-init : goal.loop-end-init

@@ -1,10 +1,7 @@
 -- `word_end`: the word that began at `at` has reached `end`; it is over at a space or at the end of the text.
-use mathlib.Core.Path.{sym, ◌∙◌}
 use Prim.Native.Nat.{◌-◌}
-use native.Mathlib.Omega.{arith}
 use lib.ListN.{length}
-use borrow.Author.Rules.{rules}
-use Rattle.seek_text.proofs.Words.{Growing, growing_start, growing_on, growing_stop, growing_end}
+use Rattle.seek_text.proofs.Words.{Growing}
 use Rattle.seek_text.proofs.word_end.Given as goal
 
 abbrev pub invariant-loop-end : goal.invariant-loop-end

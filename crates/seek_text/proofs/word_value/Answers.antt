@@ -1,7 +1,5 @@
 -- `word_value`: the definition's cases, one after another.
 use mathlib.Core.Path.{sym, ◌∙◌}
-use Prim.Native.Nat.{◌-◌}
-use borrow.Author.Rules.{rules}
 use Rattle.definition.specs.Tables.{pad}
 use Rattle.definition.specs.Seek.{value, junk}
 use Rattle.seek_text.proofs.word_value.Goals as goal

@@ -1,5 +1,5 @@
 -- `bad_beam` meets its contract.
-use Rattle.std.proofs.Common.{◌-◌, refl}
+use Rattle.std.proofs.Common.{refl}
 use Rattle.definition.specs.Refusals.{bad_beam}
 use Rattle.checks.proofs.limits.bad_beam.Goals as goal
 

@@ -1,5 +1,5 @@
 -- `bad_count` meets its contract.
-use Rattle.std.proofs.Common.{◌-◌, refl, eq-eqb, ne_eqb}
+use Rattle.std.proofs.Common.{refl, eq-eqb, ne_eqb}
 use Rattle.definition.specs.Refusals.{bad_count}
 use Rattle.checks.proofs.limits.bad_count.Goals as goal
 

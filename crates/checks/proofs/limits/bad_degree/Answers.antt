@@ -1,5 +1,5 @@
 -- `bad_degree` meets its contract.
-use Rattle.std.proofs.Common.{◌-◌, refl, eq-eqb, ne_eqb}
+use Rattle.std.proofs.Common.{refl, eq-eqb, ne_eqb}
 use Rattle.definition.specs.Refusals.{bad_degree}
 use Rattle.checks.proofs.limits.bad_degree.Goals as goal
 

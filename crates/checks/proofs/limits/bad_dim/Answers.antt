@@ -1,5 +1,5 @@
 -- `bad_dim` meets its contract.
-use Rattle.std.proofs.Common.{◌-◌, refl, eq-eqb, ne_eqb}
+use Rattle.std.proofs.Common.{refl, eq-eqb, ne_eqb}
 use Rattle.definition.specs.Refusals.{bad_dim}
 use Rattle.checks.proofs.limits.bad_dim.Goals as goal
 

@@ -1,5 +1,5 @@
 -- `bad_extra` meets its contract.
-use Rattle.std.proofs.Common.{◌-◌, refl, le-ltb, lt-ltb}
+use Rattle.std.proofs.Common.{refl, le-ltb, lt-ltb}
 use Rattle.definition.specs.Refusals.{bad_extra}
 use Rattle.checks.proofs.limits.bad_extra.Goals as goal
 

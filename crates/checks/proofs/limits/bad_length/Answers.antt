@@ -1,5 +1,5 @@
 -- `bad_length` meets its contract.
-use Rattle.std.proofs.Common.{◌-◌, refl, mul-le-mul, arith}
+use Rattle.std.proofs.Common.{refl, mul-le-mul, arith}
 use Rattle.checks.specs.Lengths.{wrong_length}
 use Rattle.checks.proofs.limits.bad_length.Goals as goal
 

@@ -1,5 +1,5 @@
 -- `bad_start` meets its contract.
-use Rattle.std.proofs.Common.{◌-◌, refl}
+use Rattle.std.proofs.Common.{refl}
 use Rattle.definition.specs.Refusals.{bad_start}
 use Rattle.checks.proofs.limits.bad_start.Goals as goal
 

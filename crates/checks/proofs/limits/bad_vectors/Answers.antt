@@ -1,5 +1,5 @@
 -- `bad_vectors` meets its contract.
-use Rattle.std.proofs.Common.{◌-◌, sym, refl, ◌∙◌, mul-le-mul, arith, rules}
+use Rattle.std.proofs.Common.{sym, refl, ◌∙◌, mul-le-mul, arith}
 use Rattle.definition.specs.Refusals.{bad_vectors}
 use Rattle.accepted.specs.Checks.{count_good}
 use Rattle.checks.proofs.limits.bad_vectors.Goals as goal

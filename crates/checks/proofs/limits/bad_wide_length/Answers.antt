@@ -1,5 +1,5 @@
 -- `bad_wide_length` meets its contract.
-use Rattle.std.proofs.Common.{ℕ, ap, ◌∙◌, arith, rules}
+use Rattle.std.proofs.Common.{ℕ, ap, ◌∙◌, arith}
 use Rattle.laws.specs.Tables.{slack-few}
 use Rattle.checks.specs.Lengths.{wrong_length}
 use Rattle.checks.proofs.limits.bad_wide_length.Goals as goal

@@ -1,5 +1,5 @@
 -- `build_short` meets its contract.
-use Rattle.std.proofs.Common.{◌-◌, refl, rules, le-ltb, lt-ltb}
+use Rattle.std.proofs.Common.{refl, le-ltb, lt-ltb}
 use Rattle.definition.specs.Refusals.{build_words, build_floats}
 use Rattle.checks.specs.Lengths.{build_short}
 use Rattle.checks.proofs.rooms.build_short.Goals as goal

@@ -1,5 +1,5 @@
 -- `most_answers` meets its contract.
-use Rattle.std.proofs.Common.{◌-◌, arith}
+use Rattle.std.proofs.Common.{arith}
 use Rattle.definition.specs.Refusals.{most_answers}
 use Rattle.checks.proofs.rooms.most_answers.Goals as goal
 

@@ -1,5 +1,5 @@
 -- `search_short` meets its contract.
-use Rattle.std.proofs.Common.{◌-◌, refl, rules, le-ltb, lt-ltb}
+use Rattle.std.proofs.Common.{refl, le-ltb, lt-ltb}
 use Rattle.definition.specs.Refusals.{search_words, search_floats}
 use Rattle.checks.specs.Lengths.{search_short_by}
 use Rattle.checks.proofs.rooms.search_short.Goals as goal

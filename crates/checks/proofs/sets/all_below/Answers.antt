@@ -1,5 +1,5 @@
 -- `all_below` meets its contract.
-use Rattle.std.proofs.Common.{ℕ, ◌-◌, Bool, ltb, length, sym, subst, arith, rules, le-ltb, lt-ltb}
+use Rattle.std.proofs.Common.{ℕ, Bool, ltb, sym, subst, le-ltb, lt-ltb}
 use Rattle.laws.specs.Looked.{Looked, look-start, look_bad, look_good, look_none}
 use Rattle.checks.specs.Below.{all_below}
 use Rattle.checks.proofs.sets.all_below.Goals as goal

@@ -1,7 +1,6 @@
 -- `all_below` meets its contract.
-use Rattle.std.proofs.Common.{ℕ, ◌-◌, Bool, ltb, length, sym, subst, ⊎_elim, arith, rules, le-ltb, lt-ltb}
-use Rattle.laws.specs.Looked.{Looked, look-start, look_bad, look_good, look_none}
-use Rattle.checks.specs.Below.{all_below}
+use Rattle.std.proofs.Common.{◌-◌, ltb, length}
+use Rattle.laws.specs.Looked.{Looked}
 use Rattle.checks.proofs.sets.all_below.Given as goal
 
 abbrev pub invariant-loop-i : goal.invariant-loop-i

@@ -1,6 +1,5 @@
 -- `bad_group` meets its contract.
-use Rattle.std.proofs.Common.{◌≡◌, ◌+◌, ◌-◌, ◌≤◌, length, drop, sym, refl, ap, ◌∙◌, arith, rules}
-use Rattle.definition.specs.Refusals.{good_group}
+use Rattle.std.proofs.Common.{◌+◌, sym, refl, ap, ◌∙◌, arith}
 use Rattle.checks.specs.Groups.{seed_far, seed_start, seed_again, seed_good, seeds_end}
 use Rattle.definition.specs.Lists.{is_in}
 use Rattle.checks.specs.Lent.{rest_is}

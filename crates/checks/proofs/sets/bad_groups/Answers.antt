@@ -1,6 +1,6 @@
 -- `bad_groups` meets its contract.
-use Rattle.std.proofs.Common.{◌-◌, arith, rules}
-use Rattle.checks.specs.Groups.{Grouped, groups_start, group_bad, group_good, groups_end}
+use Rattle.std.proofs.Common.{rules}
+use Rattle.checks.specs.Groups.{groups_start, group_bad, group_good, groups_end}
 use Rattle.laws.specs.Tables.{row_fits}
 use Rattle.checks.proofs.sets.bad_groups.Goals as goal
 

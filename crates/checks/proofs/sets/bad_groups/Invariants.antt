@@ -1,7 +1,6 @@
 -- `bad_groups` meets its contract.
-use Rattle.std.proofs.Common.{◌-◌, arith, rules}
-use Rattle.checks.specs.Groups.{Grouped, groups_start, group_bad, group_good, groups_end}
-use Rattle.laws.specs.Tables.{row_fits}
+use Rattle.std.proofs.Common.{◌-◌}
+use Rattle.checks.specs.Groups.{Grouped}
 use Rattle.checks.proofs.sets.bad_groups.Given as goal
 
 abbrev pub invariant-loop-g : goal.invariant-loop-g

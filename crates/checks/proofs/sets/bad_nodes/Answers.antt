@@ -1,8 +1,7 @@
 -- `bad_nodes` meets its contract.
-use Rattle.std.proofs.Common.{◌-◌, sym, refl, ◌∙◌, rules, le-ltb, lt-ltb}
+use Rattle.std.proofs.Common.{sym, refl, ◌∙◌, le-ltb, lt-ltb}
 use Rattle.definition.specs.Refusals.{bad_nodes}
 use Rattle.checks.specs.Below.{all_below, below-small}
-use borrow.Author.Tests.{not-true, not-false}
 use Rattle.checks.proofs.sets.bad_nodes.Goals as goal
 
 pub returns-then-nodes-gt256 : goal.returns-then-nodes-gt256

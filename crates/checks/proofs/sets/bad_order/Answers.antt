@@ -1,8 +1,7 @@
 -- `bad_order` meets its contract.
-use Rattle.std.proofs.Common.{◌-◌, sym, refl, ◌∙◌, rules, eq-eqb, ne_eqb}
+use Rattle.std.proofs.Common.{sym, refl, ◌∙◌, eq-eqb, ne_eqb}
 use Rattle.definition.specs.Refusals.{bad_order}
 use Rattle.checks.specs.Below.{all_below, below-small}
-use borrow.Author.Tests.{not-true, not-false}
 use Rattle.checks.proofs.sets.bad_order.Goals as goal
 
 pub returns-then-order-n : goal.returns-then-order-n

@@ -1,5 +1,5 @@
 -- `bad_pivots` meets its contract.
-use Rattle.std.proofs.Common.{◌-◌, refl, rules, le-ltb, lt-ltb, eq-eqb, ne_eqb}
+use Rattle.std.proofs.Common.{refl, le-ltb, lt-ltb, eq-eqb, ne_eqb}
 use Rattle.definition.specs.Refusals.{bad_pivots}
 use Rattle.checks.specs.Below.{all_below}
 use Rattle.checks.proofs.sets.bad_pivots.Goals as goal

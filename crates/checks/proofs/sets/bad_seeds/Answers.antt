@@ -1,5 +1,5 @@
 -- `bad_seeds` meets its contract.
-use Rattle.std.proofs.Common.{◌-◌, length, sym, ◌∙◌, rules}
+use Rattle.std.proofs.Common.{length, sym, ◌∙◌}
 use Rattle.checks.specs.Groups.{seeds_limit, seeds_none, seeds_wrong, seeds_right, whole-groups, as_many, right_many}
 use Rattle.checks.proofs.sets.bad_seeds.Goals as goal
 

@@ -1,6 +1,5 @@
 -- `bad_row` meets its contract.
-use Rattle.std.proofs.Common.{◌-◌, sym, ◌∙◌, rules}
-use borrow.Author.Tests.{not-true, not-false}
+use Rattle.std.proofs.Common.{sym, ◌∙◌}
 use Rattle.checks.specs.Rows.{row_bad_rest, row_end}
 use Rattle.checks.proofs.tables.bad_row.Goals as goal
 

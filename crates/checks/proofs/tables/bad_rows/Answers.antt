@@ -1,8 +1,8 @@
 -- `bad_rows` meets its contract.
-use Rattle.std.proofs.Common.{ℕ, ◌-◌, sym, arith, rules}
+use Rattle.std.proofs.Common.{ℕ, sym, rules}
 use lib.ListN.{length-replicate}
 use Rattle.laws.specs.Tables.{row_fits}
-use Rattle.checks.specs.Rows.{Rowed, rows_start, row_ready, rows_bad, rows_more, rows_end}
+use Rattle.checks.specs.Rows.{rows_start, row_ready, rows_bad, rows_more, rows_end}
 use Rattle.checks.proofs.tables.bad_rows.Goals as goal
 
 pub loop-i-init : goal.loop-i-init

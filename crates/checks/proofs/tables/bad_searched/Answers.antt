@@ -1,5 +1,5 @@
 -- `bad_searched` meets its contract.
-use Rattle.std.proofs.Common.{◌-◌, sym, ◌∙◌, rules}
+use Rattle.std.proofs.Common.{sym, ◌∙◌}
 use Rattle.checks.specs.Searched.{searched-length, searched_rule}
 use Rattle.checks.proofs.tables.bad_searched.Goals as goal
 

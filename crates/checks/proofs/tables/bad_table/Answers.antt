@@ -1,5 +1,5 @@
 -- `bad_table` meets its contract.
-use Rattle.std.proofs.Common.{◌-◌, sym, ◌∙◌, rules}
+use Rattle.std.proofs.Common.{sym, ◌∙◌}
 use Rattle.checks.specs.Good.{length_right}
 use Rattle.checks.specs.Rows.{table_length, table_rule}
 use Rattle.checks.proofs.tables.bad_table.Goals as goal

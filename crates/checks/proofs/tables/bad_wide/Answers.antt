@@ -1,5 +1,5 @@
 -- `bad_wide` meets its contract.
-use Rattle.std.proofs.Common.{ℕ, ap, ◌∙◌, arith, rules}
+use Rattle.std.proofs.Common.{ℕ, ap, ◌∙◌, arith}
 use Rattle.definition.specs.Refusals.{bad_table}
 use Rattle.laws.specs.Tables.{slack-few}
 use Rattle.checks.proofs.tables.bad_wide.Goals as goal

@@ -1,5 +1,5 @@
 -- `count_entries` meets its contract.
-use Rattle.std.proofs.Common.{◌-◌, length, sym, subst, arith, rules}
+use Rattle.std.proofs.Common.{sym, subst, arith}
 use Rattle.checks.specs.Front.{Counted, count-start, count_one, count_other, count_end}
 use Rattle.checks.proofs.tables.count_entries.Goals as goal
 use Rattle.checks.proofs.tables.count_entries.Goals.{then-words-i, else-words-i}

@@ -1,6 +1,6 @@
 -- `count_entries` meets its contract.
-use Rattle.std.proofs.Common.{◌-◌, length, sym, subst, ⊎_elim, arith, rules}
-use Rattle.checks.specs.Front.{Counted, count-start, count_one, count_other, count_end}
+use Rattle.std.proofs.Common.{◌-◌, length}
+use Rattle.checks.specs.Front.{Counted}
 use Rattle.checks.proofs.tables.count_entries.Given as goal
 
 abbrev pub invariant-loop-i : goal.invariant-loop-i

@@ -1,5 +1,5 @@
 -- `has_foreign` meets its contract.
-use Rattle.std.proofs.Common.{◌-◌, length, sym, subst, arith, rules}
+use Rattle.std.proofs.Common.{sym, subst}
 use Rattle.laws.specs.Looked.{Looked, look-start, look_bad, look_good, look_end}
 use Rattle.checks.specs.Foreign.{is_word, word_foreign, word_fine}
 use Rattle.definition.specs.Tables.{search_rule}

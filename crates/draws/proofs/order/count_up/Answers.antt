@@ -1,6 +1,6 @@
 -- `count_up` meets its contract. The invariant: each word before i is its place.
-use Rattle.std.proofs.Common.{◌-◌, ◌≤◌, length, ◌∙◌, arith, rules}
-use Rattle.draws.specs.Places.{Placing, place_start, place_turn, place_end, own_places}
+use Rattle.std.proofs.Common.{◌∙◌, arith}
+use Rattle.draws.specs.Places.{place_start, place_turn, place_end, own_places}
 use Rattle.draws.proofs.order.count_up.Goals as goal
 
 pub loop-i-init : goal.loop-i-init

@@ -1,6 +1,6 @@
 -- `count_up` meets its contract. The invariant: each word before i is its place.
-use Rattle.std.proofs.Common.{◌-◌, ◌≤◌, length, ◌∙◌, arith, rules}
-use Rattle.draws.specs.Places.{Placing, place_start, place_turn, place_end, own_places}
+use Rattle.std.proofs.Common.{◌-◌, ◌≤◌, length}
+use Rattle.draws.specs.Places.{Placing}
 use Rattle.draws.proofs.order.count_up.Given as goal
 
 abbrev pub invariant-loop-i : goal.invariant-loop-i

@@ -1,7 +1,6 @@
 -- `shuffle` meets its contract. The invariant: the exchanges from i down, done to what stands now, lead to the whole shuffle.
-use Rattle.std.proofs.Common.{get_or, arith, length-set, rules}
-use Rattle.definition.specs.Draws.{drawn}
-use Rattle.draws.specs.Order.{Shuffling, shuffle_start, shuffle_turn, shuffle_end}
+use Rattle.std.proofs.Common.{get_or, arith, length-set}
+use Rattle.draws.specs.Order.{shuffle_start, shuffle_turn, shuffle_end}
 use Rattle.draws.proofs.order.shuffle.Goals as goal
 
 pub loop-i-init : goal.loop-i-init

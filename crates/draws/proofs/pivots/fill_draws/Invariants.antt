@@ -1,6 +1,6 @@
 -- `fill_draws` meets its contract. The invariant: what is still to be drawn, from the state as it is, completes the draws.
-use Rattle.std.proofs.Common.{◌-◌, ◌≤◌, arith, rules}
-use Rattle.draws.specs.Pivots.{Drawing, draws_start, draws_turn, draws_end}
+use Rattle.std.proofs.Common.{◌-◌, ◌≤◌}
+use Rattle.draws.specs.Pivots.{Drawing}
 use Rattle.draws.proofs.pivots.fill_draws.Given as goal
 
 abbrev pub invariant-loop-i : goal.invariant-loop-i

@@ -1,29 +1,22 @@
 -- `fill_rows` meets its contract. The invariant: the rows from i on, from the state as it is, complete the table.
-use Rattle.std.proofs.Common.{◌+◌, ◌-◌, ◌*◌, ◌≤◌, length, ◌∙◌, arith, rules}
-use Rattle.draws.specs.Rows.{Rowing, row_within, rows_start, rows_turn, rows_end}
+use Rattle.std.proofs.Common.{◌∙◌, arith, rules}
+use Rattle.draws.specs.Rows.{row_within, rows_start, rows_turn, rows_end}
 use Rattle.draws.proofs.rows.fill_rows.Goals as goal
-
--- the row stands in the table
-fits : (c : goal.After-drawn-r invariant-loop decreases-loop)
-    → let a = c.args in c.loop-i.i * a.degree + a.degree ≤ length c.loop-i.table
-fits c =
-    row_within _ _ _ _ c.loop-i-test.true
-    (c.loop-i.invariant.1.words.size ∙ c.requires.2)
 
 pub loop-i-init : goal.loop-i-init
 loop-i-init c = (omega arith, rows_start _ _ _ _)
 
 pub overflow_mul-at : goal.overflow_mul-at
-overflow_mul-at c = let e = fits c in search rules
+overflow_mul-at c = let e = row_within _ _ _ _ c.loop-i-test.true (c.loop-i.invariant.1.words.size ∙ c.requires.2) in search rules
 
 pub overflow_add-end : goal.overflow_add-end
-overflow_add-end c = let e = fits c in search rules
+overflow_add-end c = let e = row_within _ _ _ _ c.loop-i-test.true (c.loop-i.invariant.1.words.size ∙ c.requires.2) in search rules
 
 pub offset_bounds-table-at : goal.offset_bounds-table-at
-offset_bounds-table-at c = let e = fits c in search rules
+offset_bounds-table-at c = let e = row_within _ _ _ _ c.loop-i-test.true (c.loop-i.invariant.1.words.size ∙ c.requires.2) in search rules
 
 pub slice_bounds-write_row-end : goal.slice_bounds-write_row-end
-slice_bounds-write_row-end c = let e = fits c in search rules
+slice_bounds-write_row-end c = let e = row_within _ _ _ _ c.loop-i-test.true (c.loop-i.invariant.1.words.size ∙ c.requires.2) in search rules
 
 pub write_row-requires : goal.write_row-requires
 write_row-requires c = (omega arith, omega arith, c.loop-i-test.true, c.drawn-r.ensures.below (omega arith))

@@ -1,6 +1,6 @@
 -- `fill_rows` meets its contract. The invariant: the rows from i on, from the state as it is, complete the table.
-use Rattle.std.proofs.Common.{◌+◌, ◌-◌, ◌*◌, ◌≤◌, length, ◌∙◌, arith, rules}
-use Rattle.draws.specs.Rows.{Rowing, row_within, rows_start, rows_turn, rows_end}
+use Rattle.std.proofs.Common.{◌-◌, ◌≤◌}
+use Rattle.draws.specs.Rows.{Rowing}
 use Rattle.draws.proofs.rows.fill_rows.Given as goal
 
 abbrev pub invariant-loop-i : goal.invariant-loop-i

@@ -1,7 +1,7 @@
 -- `write_ids` meets its contract. The invariant: step is (r + j) mod (n-1), and each word before j is the row's id.
-use Rattle.std.proofs.Common.{◌≡◌, ℕ, ◌+◌, ◌-◌, ◌%◌, ◌<◌, ◌≤◌, length, ap, ◌∙◌, mod-lt, arith, rules}
+use Rattle.std.proofs.Common.{◌≡◌, ℕ, ◌+◌, ◌%◌, ap, ◌∙◌, mod-lt, arith}
 use Rattle.definition.specs.Draws.{row_ids}
-use Rattle.draws.specs.Places.{Placing, place_start, place_turn, place_end}
+use Rattle.draws.specs.Places.{place_start, place_turn, place_end}
 use Rattle.draws.specs.Rows.{id_at, step-first, step_next}
 use Rattle.draws.proofs.rows.write_ids.Goals as goal
 

@@ -1,5 +1,4 @@
 -- `write_row` meets its contract: the part with ids, then padding.
-use Rattle.std.proofs.Common.{rules}
 use Rattle.draws.specs.Rows.{row_written}
 use Rattle.draws.proofs.rows.write_row.Goals as goal
 

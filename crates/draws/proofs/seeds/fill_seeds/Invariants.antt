@@ -1,6 +1,6 @@
 -- `fill_seeds` meets its contract. The invariant: the seeds still to be drawn, after the k that stand, lead to the whole group.
-use Rattle.std.proofs.Common.{◌-◌, ◌≤◌, arith, rules}
-use Rattle.draws.specs.Seeds.{Grouping, group_start, group_turn, group_end}
+use Rattle.std.proofs.Common.{◌-◌, ◌≤◌}
+use Rattle.draws.specs.Seeds.{Grouping}
 use Rattle.draws.proofs.seeds.fill_seeds.Given as goal
 
 abbrev pub invariant-loop-k : goal.invariant-loop-k

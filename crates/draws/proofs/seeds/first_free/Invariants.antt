@@ -1,8 +1,6 @@
 -- `first_free` meets its contract. The invariant: the search from x leads to the same entry as the search from r.
-use Rattle.std.proofs.Common.{◌≡◌, ◌<◌, ◌≤◌, ◌∷◌, sym, refl, ◌∙◌, mod-lt, arith, rules}
-use borrow.Author.Tests.{not-true, not-false}
+use Rattle.std.proofs.Common.{◌≡◌, ◌<◌, ◌≤◌, ◌∷◌}
 use Rattle.definition.specs.Draws.{first_free}
-use Rattle.draws.specs.Seeds.{free_turn, free_here, free_end}
 use Rattle.draws.proofs.seeds.first_free.Given as goal
 
 abbrev pub invariant-loop-left : goal.invariant-loop-left

@@ -1,5 +1,5 @@
 -- `is_taken` meets its contract: the start stands before the group.
-use Rattle.std.proofs.Common.{◌∙◌, rules}
+use Rattle.std.proofs.Common.{◌∙◌}
 use Rattle.draws.specs.Seeds.{taken_start, taken_group}
 use Rattle.draws.proofs.seeds.is_taken.Goals as goal
 
