@@ -1,6 +1,5 @@
 -- `base` meets its contract: the part that is lent is the row of the wide table, or the fresh row.
 use native.Mathlib.Omega.{arith}
-use borrow.Author.Rules.{rules}
 use Rattle.batch_affected.proofs.Gathering.{base_wide, base_fresh}
 use Rattle.batch_affected.proofs.base.Goals as goal
 

@@ -1,6 +1,5 @@
 -- `gather_node` meets its contract: the seat, the base's ids, then the chain's nodes.
 use native.Mathlib.Omega.{arith}
-use borrow.Author.Rules.{rules}
 use Rattle.batch_affected.proofs.Gathering.{base_asks, row_asks, naming_asks, all_gathered}
 use Rattle.batch_affected.proofs.gather_node.Goals as goal
 
