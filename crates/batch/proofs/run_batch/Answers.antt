@@ -1,5 +1,4 @@
 -- `run_batch` meets its contract: stamps cleared, fresh rows, merge.
-use borrow.Author.Rules.{rules}
 use Rattle.batch.proofs.Running.{fresh_asks, merge_asks, batch_run}
 use Rattle.batch.proofs.run_batch.Goals as goal
 

@@ -1,5 +1,4 @@
 -- `is_affected` meets its contract: a node is affected if it has a seat, or heads a chain.
-use borrow.Author.Rules.{rules}
 use Rattle.batch_merge.proofs.Chains.{by_seat, by_head}
 use Rattle.batch_merge.proofs.is_affected.Goals as goal
 

@@ -1,5 +1,4 @@
 -- `link` meets its contract: heads and seats cleared, chains and seats made.
-use borrow.Author.Rules.{rules}
 use Rattle.batch_merge.proofs.Chains.{link_asks, seat_asks, all_linked}
 use Rattle.batch_merge.proofs.link.Goals as goal
 

@@ -1,5 +1,4 @@
 -- `merge` meets its contract: the chains first, then the rows.
-use borrow.Author.Rules.{rules}
 use Rattle.batch_merge.proofs.Merging.{rows_asks, all_done}
 use Rattle.batch_merge.proofs.merge.Goals as goal
 

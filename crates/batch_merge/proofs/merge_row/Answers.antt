@@ -1,5 +1,4 @@
 -- `merge_row` meets its contract: the node's ids are gathered, then fitted to its row.
-use borrow.Author.Rules.{rules}
 use Prim.Native.Nat.{ℕ}
 use lib.ListN.{replicate, length-replicate}
 use Rattle.batch_affected.specs.Says.{merged_most}

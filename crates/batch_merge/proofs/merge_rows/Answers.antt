@@ -1,13 +1,7 @@
 -- `merge_rows` meets its contract. The invariant: the rows below i are the merged ones, the others are as they were.
-use mathlib.Core.Path.{◌≡◌, refl, sym, ap, ◌∙◌}
-use mathlib.Core.Logic.{⊎_elim}
-use Prim.Native.Nat.{◌-◌}
+use mathlib.Core.Path.{sym, ◌∙◌}
 use native.Mathlib.Omega.{arith}
-use lib.ListN.{length}
-use borrow.Author.Rules.{rules}
-use Rattle.given.specs.Given.{given}
-use Rattle.given.specs.Fresh.{merging}
-use Rattle.batch_merge.proofs.Turns.{Turned, turn_start, turn_asks, turn_merged, turn_same, all_merged}
+use Rattle.batch_merge.proofs.Turns.{turn_start, turn_asks, turn_merged, turn_same, all_merged}
 use Rattle.batch_merge.proofs.merge_rows.Goals as goal
 use Rattle.batch_merge.proofs.merge_rows.Goals.{then-is_affected, else-is_affected}
 
@@ -26,9 +20,9 @@ loop-i-preserved c =
     let limits = c.requires.limits in
     let says = c.is_affected.ensures in
     elim c.if-is_affected.branch [
-      then-is_affected w ↦
-        turn_merged limits c.loop-i.invariant c.loop-i-test.true w.wide-is (sym w.if-is_affected.true ∙ says) w.merge_row.auto.wide w.merge_row.ensures
-    | else-is_affected w ↦ turn_same limits c.loop-i.invariant c.loop-i-test.true w.wide-is (sym w.if-is_affected.false ∙ says)
+      | then-is_affected w ↦
+          turn_merged limits c.loop-i.invariant c.loop-i-test.true w.wide-is (sym w.if-is_affected.true ∙ says) w.merge_row.auto.wide w.merge_row.ensures
+      | else-is_affected w ↦ turn_same limits c.loop-i.invariant c.loop-i-test.true w.wide-is (sym w.if-is_affected.false ∙ says)
     ]
 
 pub returns : goal.returns

@@ -1,13 +1,8 @@
 -- `merge_rows` meets its contract. The invariant: the rows below i are the merged ones, the others are as they were.
-use mathlib.Core.Path.{◌≡◌, refl, sym, ap, ◌∙◌}
-use mathlib.Core.Logic.{⊎_elim}
 use Prim.Native.Nat.{◌-◌}
-use native.Mathlib.Omega.{arith}
-use lib.ListN.{length}
-use borrow.Author.Rules.{rules}
 use Rattle.given.specs.Given.{given}
 use Rattle.given.specs.Fresh.{merging}
-use Rattle.batch_merge.proofs.Turns.{Turned, turn_start, turn_asks, turn_merged, turn_same, all_merged}
+use Rattle.batch_merge.proofs.Turns.{Turned}
 use Rattle.batch_merge.proofs.merge_rows.Given as goal
 
 abbrev pub invariant-loop-i : goal.invariant-loop-i
