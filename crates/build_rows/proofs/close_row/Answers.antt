@@ -1,7 +1,6 @@
 -- `close_row` meets its contract: the row's ids are copied, then fitted to the degree.
 use Prim.Native.Nat.{ℕ}
 use native.Mathlib.Omega.{arith}
-use borrow.Author.Rules.{rules}
 use lib.ListN.{replicate, length-replicate}
 use Rattle.scratch.specs.Layout.{widest}
 use Rattle.build_rows.proofs.Closing.{lent_few, copied_few, row_asks, row_closed}

@@ -1,11 +1,7 @@
 -- `close_rows` meets its contract. The invariant: the rows below i are closed.
-use mathlib.Core.Path.{◌≡◌, refl, ◌∙◌}
 use Prim.Native.Nat.{◌-◌}
-use native.Mathlib.Omega.{arith}
-use lib.ListN.{length}
-use borrow.Author.Rules.{rules}
 use Rattle.given.specs.Given.{given}
-use Rattle.build_rows.proofs.Closing.{Closing, close_start, close_asks, close_more, close_end}
+use Rattle.build_rows.proofs.Closing.{Closing}
 use Rattle.build_rows.proofs.close_rows.Given as goal
 
 abbrev pub invariant-loop-i : goal.invariant-loop-i

@@ -1,10 +1,6 @@
 -- `open_rows` meets its contract. The invariant: the rows below i are opened.
-use Prim.Native.Nat.{◌+◌, ◌-◌, ◌*◌, ◌≤◌}
 use native.Mathlib.Omega.{arith}
-use lib.ListN.{length}
-use borrow.Author.Rules.{rules}
-use Rattle.build_rows.specs.Says.{opened}
-use Rattle.build_rows.proofs.Opening.{Opening, open_start, opening_fits, put_asks, open_more, open_end}
+use Rattle.build_rows.proofs.Opening.{open_start, opening_fits, put_asks, open_more, open_end}
 use Rattle.build_rows.proofs.open_rows.Goals as goal
 
 pub loop-i-init : goal.loop-i-init
