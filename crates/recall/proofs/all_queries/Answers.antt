@@ -34,8 +34,8 @@ loop-q-preserved c =
     let outs = c.loop-q.invariant.1 in (
       go_on p.queries_accepted p.count_value c.loop-q-test.true c.first_epoch-epoch.ensures c.loop-q.invariant.0 c.one_query-brought.ensures p.each_value
           (elim c.if-hits-each.branch [
-          | then-hits-each w ↦ inl (w.if-hits-each.true, w.whole-is)
-          | else-hits-each w ↦ inr (w.if-hits-each.false, w.whole-is)
+            | then-hits-each w ↦ inl (w.if-hits-each.true, w.whole-is)
+            | else-hits-each w ↦ inr (w.if-hits-each.false, w.whole-is)
           ]),
       record {
         ids_long = kept.ids ∙ outs.ids_long;

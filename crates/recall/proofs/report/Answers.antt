@@ -1,6 +1,4 @@
 -- `report`. It is refused by its number, or accepted.
-use Rattle.std.proofs.Common.{List, ℕ, Float}
-use Rattle.definition.specs.Refusals.{ReportCall}
 use Rattle.recall.proofs.Reporting.{accepted, refused, done}
 use Rattle.recall.proofs.report.Goals as goal
 
