@@ -106,8 +106,8 @@ module _ (p : Plan) (d : ℕ → ℕ) where
       }
 
   -- the same, of a part that was lent by its bounds
-  pub grown_part : {epoch stamp : ℕ} {words : List ℕ} (h : Holding p epoch (stage words stamp 0)) {from end : ℕ} (a : from ≡ pool_at p.n) (b : end ≡ pool_end p.n)
-      {pool : List ℕ} (same : length pool ≡ length (part from end words)) {r : ℕ} {xs : List ℕ}
+  pub grown_part : {epoch stamp : ℕ} {words : List ℕ} (h : Holding p epoch (stage words stamp 0)) {from end : ℕ} (a : from ≡ pool_at p.n)
+      (b : end ≡ pool_end p.n) {pool : List ℕ} (same : length pool ≡ length (part from end words)) {r : ℕ} {xs : List ℕ}
       → Added p.n (pool_as (part from end words) stamp 0) (pool_as pool stamp r) xs (λ f. f ≡ d)
       → Grown p epoch (stage words stamp 0) (stage (put_mid from (end - from) words pool) stamp r) xs d
   grown_part {epoch} {stamp} {words} h a b {pool} same {r} {xs} added =

@@ -1,5 +1,5 @@
 -- Demand 3, second sentence, over what a caller holds after a search that was not refused: `Held`, and with a run of records `RecordsHeld`.
-use Rattle.std.specs.Prelude.{ℕ, ◌-◌, ◌<◌, max, min, ◌≡◌, refl, ◌⊎◌, ltb, Float, take}
+use Rattle.std.specs.Prelude.{ℕ, ◌-◌, ◌<◌, max, min, ◌≡◌, refl, ltb, Float, take}
 use Rattle.std.proofs.Common.{arith, ◌∙◌, subst, get_or-take}
 use Rattle.std.proofs.Math.Path.{sym, ap}
 use mathlib.Core.List.{List, map, map-map}

@@ -1,8 +1,8 @@
--- Promises that rest on other promises. A theorem of specs/ is cited by no other theorem there: else an edit that makes it false is not read
--- (must-fail). What these files promise is stated by records of specs/.
---   Held        demand 3, second sentence, over what a caller holds after a search
---   LookingUp   the same of a lookup
---   Reporting   a report is its public calls
+-- Promises over what a caller holds, which rest on one another. A must-fail edit of specs/ is read well only where the theorem that it makes false is cited by
+-- no other theorem of specs/: so the records that state these promises stand there, and the theorems here.
+--   Held        demand 3, second sentence, after a search, with a run of records or not
+--   LookingUp   the same after a lookup
+--   Reporting   the report of recall is its public calls
 pub mod Held
 pub mod LookingUp
 pub mod Reporting

@@ -1,26 +1,18 @@
 -- Demand 3, second sentence, of a lookup, over what a caller holds: `LookupHeld`.
-use Rattle.std.specs.Prelude.{ℕ, ◌≤◌, ◌<◌, max, min, ◌≡◌, refl, ◌≢◌, ◌⊎◌, Bool, true, false, not, cond, ltb, eqb, length, take, Float}
-use Rattle.std.proofs.Common.{arith, sym, ap, ◌∙◌, subst, ltb-true, eq-eqb, ne_eqb}
+use Rattle.std.specs.Prelude.{ℕ, ◌≤◌, ◌<◌, ◌≡◌, ◌≢◌, ◌⊎◌, not, eqb}
+use Rattle.std.proofs.Common.{sym, ◌∙◌, subst, ne_eqb}
 use Rattle.std.proofs.Math.Logic.{inl, inr}
-use Rattle.std.proofs.Math.Bool.{or-true}
-use mathlib.Core.List.{List, [], ◌∷◌, Memᴰ as Mem}
-use Rattle.definition.specs.Lists.{keep, once_only}
-use Rattle.definition.specs.Tables.{pad, row, ids, search_rule, cleaned}
-use Rattle.definition.specs.Refusals.{SearchCall, search_number, search_number_at, search_short, ◌when◌else◌, bad_dim, bad_vectors, bad_degree, bad_beam, bad_start}
-use Rattle.definition.specs.Refusals.{bad_length, bad_searched}
-use Rattle.definition.specs.Outcome.{answer, search_answer, refused, SearchOut, search_out, search_kept, search_done, cleaned_call, lookup_out, LookupMeets}
-use Rattle.laws.specs.Truth.{decide, is_not}
+use mathlib.Core.List.{List, Memᴰ as Mem}
+use Rattle.definition.specs.Tables.{pad, ids}
+use Rattle.definition.specs.Refusals.{SearchCall}
+use Rattle.definition.specs.Outcome.{SearchOut, cleaned_call, lookup_out, LookupMeets}
+use Rattle.laws.specs.Truth.{is_not}
 use Rattle.laws.specs.Members.{keep_mem, mem_keep}
-use Rattle.laws.specs.Cleaned.{length-cleaned, row-cleaned}
 use Rattle.theory.specs.search.Tells.{Reachable, from_start, along, OnWay, SearchTells, Excludes}
-use Rattle.accepted.specs.Outcomes.{by_refusal, said_number}
-use Rattle.accepted.specs.Checks.{cleaned-searched, count_low, length-passes}
-use Rattle.accepted.specs.Search.{search_accepted, cleaned-call}
-use Rattle.promises.specs.Outcomes.{lookup_is}
-use Rattle.promises.specs.Searching.{rows_of, distance_to, last_distance}
-use Rattle.promises.specs.Held.{Held}
+use Rattle.accepted.specs.Checks.{count_low}
+use Rattle.accepted.specs.Search.{search_accepted}
+use Rattle.promises.specs.Searching.{rows_of}
 use Rattle.promises.proofs.Held.{search_held}
-use Rattle.promises.specs.Harmless.{with_table, search_reads}
 use Rattle.promises.specs.LookingUp.{named_by, named-ids, said, LookupHeld}
 
 -- Rows that name the same entries lead to the same entries, by the same ways

@@ -1,30 +1,15 @@
 -- The report of recall is its public calls: what it counts of a query is what a search and an exhaustive search of that query have in common.
-use Prim.Native.Nat.{ℕ, zero, suc, ◌*◌, ◌≤◌, ◌<◌, min, max, zero-le}
-use Rattle.std.proofs.Common.{zero-mul, arith, ap, ap₂, ◌∙◌}
-use Rattle.std.specs.Prelude.{◌≡◌, refl, Float, length, take}
-use Rattle.std.proofs.Math.Path.{sym, subst}
-use mathlib.Core.List.Memᴰ.{of_map}
-use mathlib.Core.List.{List, Memᴰ as Mem}
-use Rattle.std.proofs.Math.ListN.{length-map}
-use Rattle.definition.specs.declared.Report.{Report}
-use Rattle.definition.specs.Lists.{upto}
-use Rattle.definition.specs.Tables.{row}
-use Rattle.definition.specs.Metric.{from_query, vector}
-use Rattle.definition.specs.Search.{ranked, searched, answers}
+use Prim.Native.Nat.{ℕ}
+use Rattle.std.proofs.Common.{ap₂}
+use Rattle.std.specs.Prelude.{◌≡◌, Float, take}
+use Rattle.std.proofs.Math.Path.{sym}
+use mathlib.Core.List.{List}
+use Rattle.definition.specs.Metric.{vector}
 use Rattle.definition.specs.Recall.{in_both, hits}
-use Rattle.definition.specs.Refusals.{ReportCall, report_number}
-use Rattle.definition.specs.Outcome.{by_number, SearchOut, SearchMeets, found_ids, found, ExhaustiveOut, ExhaustiveMeets, nearest_to}
-use Rattle.definition.specs.Outcome.{reported, query_count, asked_each, hits_at, all_hits, ReportOut, ReportMeets, report_out, report_kept, report_done}
-use Rattle.laws.specs.Members.{length-upto}
-use Rattle.laws.specs.Tables.{row-mem}
-use Rattle.theory.specs.Rule.{search_rule-mem}
-use Rattle.theory.specs.search.Tells.{Reachable}
-use Rattle.theory.specs.search.Ground.{Ground}
-use Rattle.theory.specs.recall.Brought.{brought_answered, brought_nearest, all_brought}
-use Rattle.theory.specs.recall.Counted.{total_most, count_most, count_least, count-all, all-count, total-all}
-use Rattle.accepted.specs.Outcomes.{by_success, said_zero}
-use Rattle.accepted.specs.Recall.{ReportAccepted, report_accepted, search_of, exhaustive_of}
-use Rattle.promises.specs.Outcomes.{report_is}
+use Rattle.definition.specs.Refusals.{ReportCall}
+use Rattle.definition.specs.Outcome.{SearchOut, SearchMeets, found_ids, found, ExhaustiveOut, ExhaustiveMeets, nearest_to}
+use Rattle.definition.specs.Outcome.{hits_at}
+use Rattle.accepted.specs.Recall.{search_of, exhaustive_of}
 use Rattle.promises.proofs.Held.{search_held}
 use Rattle.promises.specs.Exhausting.{exhaustive_held}
 

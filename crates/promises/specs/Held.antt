@@ -1,32 +1,15 @@
 -- Demand 3, second sentence, over what a caller holds after a search that was not refused: the front of the two outputs, `count` places of each, and of the
 -- run of records. That these are the answers of the definition, that each id has its own distance beside it, and what they tell and exclude.
-use Rattle.std.specs.Prelude.{ℕ, ◌-◌, ◌<◌, max, min, ◌≡◌, refl, ◌⊎◌, ltb, Float, take}
-use Rattle.std.proofs.Common.{arith, ◌∙◌, subst, get_or-take}
-use Rattle.std.proofs.Math.Path.{sym, ap}
-use mathlib.Core.List.{List, map, map-map}
-use borrow.Author.Tests.{ltb-true, ltb-false}
-use Rattle.std.proofs.Math.ListN.{length, get_or, length-map, get_or-map}
-use Rattle.definition.specs.declared.Candidate.{Candidate}
-use Rattle.definition.specs.Lists.{over}
+use Rattle.std.specs.Prelude.{ℕ, ◌-◌, ◌<◌, max, min, ◌≡◌, ◌⊎◌, Float, take}
+use mathlib.Core.List.{List, map}
+use Rattle.std.proofs.Math.ListN.{length, get_or}
 use Rattle.definition.specs.Metric.{whole}
 use Rattle.definition.specs.Floats.{nought}
-use Rattle.definition.specs.Beam.{Item, nobody}
-use Rattle.definition.specs.Refusals.{SearchCall, search_number, records_number}
-use Rattle.definition.specs.Outcome.{answer, search_answer, refused, found, found_ids, found_dists, found_records}
-use Rattle.definition.specs.Outcome.{SearchOut, SearchMeets, search_out, search_kept, search_done}
-use Rattle.definition.specs.Outcome.{RecordsOut, RecordsMeets, records_out, records_kept, records_done}
-use Rattle.whole.specs.Whole.{nought-whole}
-use Rattle.laws.specs.Truth.{decide}
-use Rattle.laws.specs.Members.{mem_length, mem-at}
-use Rattle.laws.specs.Backwards.{map-take}
-use Rattle.laws.specs.Writing.{over_front}
-use Rattle.laws.specs.Places.{places_ordered}
-use Rattle.laws.specs.Items.{listed_is}
-use Rattle.theory.specs.search.Tells.{from_start, SearchTells, Excludes}
-use Rattle.accepted.specs.Outcomes.{by_success, said_zero}
-use Rattle.accepted.specs.Search.{SearchAccepted, search_accepted, records_accepted, search_answers}
-use Rattle.promises.specs.Outcomes.{search_is, records_is}
-use Rattle.promises.specs.Searching.{rows_of, distance_to, last_distance, search_tells, search_excludes, search_order}
+use Rattle.definition.specs.Refusals.{SearchCall}
+use Rattle.definition.specs.Outcome.{found_ids, found_dists, found_records}
+use Rattle.definition.specs.Outcome.{RecordsOut}
+use Rattle.theory.specs.search.Tells.{SearchTells, Excludes}
+use Rattle.promises.specs.Searching.{rows_of, distance_to, last_distance}
 
 -- entry i is answered before entry j: it is nearer, or as near and newer
 abbrev pub FirstOf : SearchCall → ℕ → ℕ → Type 0

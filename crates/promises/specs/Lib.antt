@@ -20,6 +20,7 @@
 --   Drawn               what is drawn is acceptable; rows are full; how soon a seed is found
 -- Statements over one part alone stand in theory: what a distance is (Metric), the test of 8 (Rule), what pruning leaves (prune.Pruned), that no loop is cut
 -- short (prune.Rounds, search.Ends, build.Runs, draws.Tries), that what is printed reads back (seek). What an accepted call has stands in accepted.
+-- That a search and a lookup leave what Held and LookupHeld say stands in proofs/, with what rests on it.
 pub mod Slack
 pub mod Outcomes
 pub mod Saturated

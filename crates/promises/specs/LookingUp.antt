@@ -1,20 +1,18 @@
 -- `lookup`, which 01 does not have: a search that reads each word of its table that is no entry as padding. Its number; what a refusal leaves; that it is
 -- `search` wherever that does not say 8; that of a row it reads nothing but the entries that the row names; and demand 3, second sentence, over what a caller
 -- holds after a lookup that was not refused.
-use Rattle.std.specs.Prelude.{ℕ, ◌≤◌, ◌<◌, max, min, ◌≡◌, refl, ◌≢◌, ◌⊎◌, Bool, true, false, not, cond, ltb, eqb, length, take, Float}
-use Rattle.std.proofs.Common.{arith, sym, ap, ◌∙◌, subst, ltb-true, eq-eqb, ne_eqb}
-use Rattle.std.proofs.Math.Logic.{inl, inr}
+use Rattle.std.specs.Prelude.{ℕ, ◌<◌, max, min, ◌≡◌, refl, ◌≢◌, Bool, true, false, not, cond, ltb, eqb, length, take, Float}
+use Rattle.std.proofs.Common.{arith, sym, ap, ◌∙◌, ltb-true, eq-eqb, ne_eqb}
 use Rattle.std.proofs.Math.Bool.{or-true}
-use mathlib.Core.List.{List, [], ◌∷◌, Memᴰ as Mem}
+use mathlib.Core.List.{List, [], ◌∷◌}
 use Rattle.definition.specs.Lists.{keep, once_only}
 use Rattle.definition.specs.Tables.{pad, row, ids, search_rule, cleaned}
 use Rattle.definition.specs.Refusals.{SearchCall, search_number, search_number_at, search_short, ◌when◌else◌, bad_dim, bad_vectors, bad_degree, bad_beam, bad_start}
 use Rattle.definition.specs.Refusals.{bad_length, bad_searched}
 use Rattle.definition.specs.Outcome.{answer, search_answer, refused, SearchOut, search_out, search_kept, search_done, cleaned_call, lookup_out, LookupMeets}
-use Rattle.laws.specs.Truth.{decide, is_not}
-use Rattle.laws.specs.Members.{keep_mem, mem_keep}
+use Rattle.laws.specs.Truth.{decide}
 use Rattle.laws.specs.Cleaned.{length-cleaned, row-cleaned}
-use Rattle.theory.specs.search.Tells.{Reachable, from_start, along, OnWay, SearchTells, Excludes}
+use Rattle.theory.specs.search.Tells.{SearchTells, Excludes}
 use Rattle.accepted.specs.Outcomes.{by_refusal, said_number}
 use Rattle.accepted.specs.Checks.{cleaned-searched, count_low, length-passes}
 use Rattle.accepted.specs.Search.{search_accepted, cleaned-call}

@@ -1,21 +1,21 @@
 -- The report of recall (1/13), over what every call of it leaves, refused or not: what its counts say of each other. Where every entry can be reached from
--- the start and the beam has room for all, it counts all. And that it is its public calls: what it counts of a query is what a search and an exhaustive
--- search of that query have in common.
+-- the start and the beam has room for all, it counts all. And that it is its public calls (proofs/Reporting): what it counts of a query is what a search and
+-- an exhaustive search of that query have in common.
 use Prim.Native.Nat.{ℕ, zero, suc, ◌*◌, ◌≤◌, ◌<◌, min, max, zero-le}
-use Rattle.std.proofs.Common.{zero-mul, arith, ap, ap₂, ◌∙◌}
-use Rattle.std.specs.Prelude.{◌≡◌, refl, Float, length, take}
+use Rattle.std.proofs.Common.{zero-mul, arith, ap, ◌∙◌}
+use Rattle.std.specs.Prelude.{◌≡◌, refl, length}
 use Rattle.std.proofs.Math.Path.{sym, subst}
 use mathlib.Core.List.Memᴰ.{of_map}
-use mathlib.Core.List.{List, Memᴰ as Mem}
+use mathlib.Core.List.{Memᴰ as Mem}
 use Rattle.std.proofs.Math.ListN.{length-map}
 use Rattle.definition.specs.declared.Report.{Report}
 use Rattle.definition.specs.Lists.{upto}
 use Rattle.definition.specs.Tables.{row}
 use Rattle.definition.specs.Metric.{from_query, vector}
 use Rattle.definition.specs.Search.{ranked, searched, answers}
-use Rattle.definition.specs.Recall.{in_both, hits}
+use Rattle.definition.specs.Recall.{hits}
 use Rattle.definition.specs.Refusals.{ReportCall, report_number}
-use Rattle.definition.specs.Outcome.{by_number, SearchOut, SearchMeets, found_ids, found, ExhaustiveOut, ExhaustiveMeets, nearest_to}
+use Rattle.definition.specs.Outcome.{by_number}
 use Rattle.definition.specs.Outcome.{reported, query_count, asked_each, hits_at, all_hits, ReportOut, ReportMeets, report_out, report_kept, report_done}
 use Rattle.laws.specs.Members.{length-upto}
 use Rattle.laws.specs.Tables.{row-mem}
@@ -25,7 +25,7 @@ use Rattle.theory.specs.search.Ground.{Ground}
 use Rattle.theory.specs.recall.Brought.{brought_answered, brought_nearest, all_brought}
 use Rattle.theory.specs.recall.Counted.{total_most, count_most, count_least, count-all, all-count, total-all}
 use Rattle.accepted.specs.Outcomes.{by_success, said_zero}
-use Rattle.accepted.specs.Recall.{ReportAccepted, report_accepted, search_of, exhaustive_of}
+use Rattle.accepted.specs.Recall.{ReportAccepted, report_accepted}
 use Rattle.promises.specs.Outcomes.{report_is}
 
 -- `found` is at most `asked`, and at most what the searches can answer; each query that is `whole` has all of its own in `found`; and all queries are whole

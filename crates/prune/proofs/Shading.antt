@@ -21,7 +21,8 @@ use Rattle.prune.specs.Says.{Measurable, shaded_from, Shaded}
 exact_between : (dim : ℕ) (vectors query : List ℕ) (taken i r : ℕ) → query ≡ vector dim vectors taken → Exact (from_query dim vectors query i) r
     → Exact (between dim vectors i taken) r
 exact_between dim vectors query taken i r q e =
-    subst (λ (d : ℕ). Exact d r) (ap (λ (v : List ℕ). from_query dim vectors v i) q ∙ sym (between_from dim vectors taken i) ∙ between_sym dim vectors taken i) e
+    subst (λ (d : ℕ). Exact d r)
+    (ap (λ (v : List ℕ). from_query dim vectors v i) q ∙ sym (between_from dim vectors taken i) ∙ between_sym dim vectors taken i) e
 
 module _ (dim : ℕ) (vectors : List ℕ) (target : Float) (taken : ℕ) where
   shade_below : (c : Item) (apart : ℕ) (factor : Float) → apart ≡ between dim vectors c.id taken → lt target factor ≡ false
@@ -41,7 +42,8 @@ module _ (dim : ℕ) (vectors : List ℕ) (target : Float) (taken : ℕ) where
     abbrev here : Item
     here = item (get_or dists j 0) (get_or ids j 0)
 
-    shaded_turn : j < length ids → (v : Float) → v ≡ shade (between dim vectors) target taken here (get_or fs j nan) → shaded (j + 1) (set fs j v) ≡ shaded j fs
+    shaded_turn : j < length ids → (v : Float) → v ≡ shade (between dim vectors) target taken here (get_or fs j nan)
+        → shaded (j + 1) (set fs j v) ≡ shaded j fs
     unfolding shaded_from shade_all
     shaded_turn h v e =
         let hd : j < length dists = omega arith in
@@ -78,8 +80,9 @@ module _ {dim : ℕ} {vectors query ids dists : List ℕ} {target : Float} {from
   shading_start nf le = record { le = le; nf = nf; are = λ taken q. refl }
 
   module _ {fs : List Float} {j : ℕ} (m : Measurable dim vectors ids dists) (s : Shading dim vectors query ids dists target from fs₀ fs j) where
-    pub shading_raise : j < length ids → {apart : ℕ} {v : Float} → Exact (from_query dim vectors query (get_or ids j 0)) apart → lt target (get_or fs j nan) ≡ false
-        → v ≡ larger (get_or fs j nan) (quotient (get_or dists j 0) apart) → Shading dim vectors query ids dists target from fs₀ (set fs j v) (j + 1)
+    pub shading_raise : j < length ids → {apart : ℕ} {v : Float} → Exact (from_query dim vectors query (get_or ids j 0)) apart
+        → lt target (get_or fs j nan) ≡ false → v ≡ larger (get_or fs j nan) (quotient (get_or dists j 0) apart)
+        → Shading dim vectors query ids dists target from fs₀ (set fs j v) (j + 1)
     shading_raise h {apart} {v} x t e =
         let c = item (get_or dists j 0) (get_or ids j 0) in
         record {

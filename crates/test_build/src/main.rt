@@ -1,6 +1,8 @@
 // Replays the cases of `stdin`, as crates/test_calls reads them: batches and whole builds, done and refused, with every row of their tables.
 #![tactic(auto)]
 
-fn main() {
-    test_calls::replay_input();
+use std::io;
+
+fn main(rt: HostRuntime) -> io::Result<()> {
+    test_calls::replay_input(&rt)
 }

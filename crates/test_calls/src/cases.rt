@@ -46,7 +46,7 @@ pub struct Case {
 }
 
 fn after(at: usize, many: usize) -> usize {
-    std::num::wrapping_add_usize(at, many)
+    at.wrapping_add(many)
 }
 
 fn params_at(cases: &[u32], at: usize) -> Params {

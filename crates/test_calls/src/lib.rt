@@ -9,6 +9,7 @@
 
 use calling::call_case;
 use cases::{case_at, fill_lists};
+use std::io;
 use telling::tell_case;
 use test_words::{read_input, word_at};
 
@@ -17,7 +18,7 @@ mod cases;
 mod telling;
 
 // Gives the place of the next case. Slices that are written are lent full of 77, so that a word that no call wrote shows.
-fn replay_case(cases: &[u32], at: usize) -> usize {
+fn replay_case(rt: &impl Print, cases: &[u32], at: usize) -> io::Result<usize> {
     let mut vectors = [0u8; 4096];
     let mut query = [0u8; 300];
     let mut list = [0u32; 1024];
@@ -53,22 +54,23 @@ fn replay_case(cases: &[u32], at: usize) -> usize {
         &mut ids,
         &mut dists,
     );
-    tell_case(a, c, &table, &wide, &closed, &words, &floats, &ids, &dists);
-    next
+    tell_case(
+        rt, a, c, &table, &wide, &closed, &words, &floats, &ids, &dists,
+    )?;
+    Ok(next)
 }
 
-fn replay_cases(cases: &[u32]) {
-    let mut left = word_at(cases, 0, 0);
+fn replay_cases(rt: &impl Print, cases: &[u32]) -> io::Result<()> {
     let mut at: usize = 1;
-    while 0 < left {
-        at = replay_case(cases, at);
-        left -= 1;
+    for _ in 0..word_at(cases, 0, 0) {
+        at = replay_case(rt, cases, at)?;
     }
+    Ok(())
 }
 
 // A list of at most 65,536 words.
-pub fn replay_input() {
+pub fn replay_input(rt: &(impl Input + Print)) -> io::Result<()> {
     let mut cases = [0u32; 65536];
-    read_input(&mut cases);
-    replay_cases(&cases);
+    read_input(rt, &mut cases)?;
+    replay_cases(rt, &cases)
 }

@@ -3,31 +3,33 @@
 use super::cases::Case;
 use definition::Answer;
 use laws::least;
+use std::io;
 use test_words::{
     float_word, floats_sum, say, say_field, say_number, say_rows, say_word, words_sum,
 };
 
-fn say_answer(a: Answer) {
-    say_field(a.number as u64);
-    say_field(a.count as u64);
-    say_field(a.id as u64);
-    say_field(a.draw as u64);
-    say_field(float_word(a.distance) as u64);
-    say_field(a.expanded as u64);
-    say_field(a.measured as u64);
+fn say_answer(rt: &impl Print, a: Answer) -> io::Result<()> {
+    say_field(rt, a.number as u64)?;
+    say_field(rt, a.count as u64)?;
+    say_field(rt, a.id as u64)?;
+    say_field(rt, a.draw as u64)?;
+    say_field(rt, float_word(a.distance) as u64)?;
+    say_field(rt, a.expanded as u64)?;
+    say_field(rt, a.measured as u64)
 }
 
-fn say_sum(words: &[u32]) {
-    say_field(words_sum(words) as u64);
+fn say_sum(rt: &impl Print, words: &[u32]) -> io::Result<()> {
+    say_field(rt, words_sum(words) as u64)
 }
 
-fn say_sums(words: &[u32], floats: &[f32]) {
-    say_sum(words);
-    say_field(floats_sum(floats) as u64);
+fn say_sums(rt: &impl Print, words: &[u32], floats: &[f32]) -> io::Result<()> {
+    say_sum(rt, words)?;
+    say_field(rt, floats_sum(floats) as u64)
 }
 
 // The sums of what a call may write. Beyond the lent part of a batch's table there is only more of the list.
 fn say_left(
+    rt: &impl Print,
     c: Case,
     table: &[u32],
     wide: &[u32],
@@ -36,29 +38,29 @@ fn say_left(
     floats: &[f32],
     ids: &[u32],
     dists: &[f32],
-) {
+) -> io::Result<()> {
     let kind = c.kind;
     match kind {
-        0 | 1 => {}
+        0 | 1 => Ok(()),
         2 => {
-            say_sums(ids, dists);
-            say_sums(words, floats);
+            say_sums(rt, ids, dists)?;
+            say_sums(rt, words, floats)
         }
         3 => {
-            say_sum(wide);
-            say_sum(closed);
-            say_sums(words, floats);
+            say_sum(rt, wide)?;
+            say_sum(rt, closed)?;
+            say_sums(rt, words, floats)
         }
         4 => {
             let tl = least(c.table, table.len());
-            say_sum(&table[0..tl]);
-            say_sums(words, floats);
+            say_sum(rt, &table[0..tl])?;
+            say_sums(rt, words, floats)
         }
         5 => {
-            say_sum(closed);
-            say_sums(words, floats);
+            say_sum(rt, closed)?;
+            say_sums(rt, words, floats)
         }
-        _ => say_sum(wide),
+        _ => say_sum(rt, wide),
     }
 }
 
@@ -102,61 +104,79 @@ fn count_unless(count: u64, as_stated: bool) -> u64 {
     if as_stated {
         return count;
     }
-    std::num::wrapping_add_u64(count, 1)
+    count.wrapping_add(1)
 }
 
 fn differing_words(xs: &[u32], zeroed: usize) -> u64 {
     let mut count: u64 = 0;
-    let mut i = 0;
-    while i < xs.len() {
-        count = count_unless(count, word_as_stated(xs[i], i, zeroed));
-        i += 1;
+    for (i, x) in xs.iter().enumerate() {
+        count = count_unless(count, word_as_stated(*x, i, zeroed));
     }
     count
 }
 
 fn differing_floats(xs: &[f32], zeroed: usize) -> u64 {
     let mut count: u64 = 0;
-    let mut i = 0;
-    while i < xs.len() {
-        count = count_unless(count, float_as_stated(xs[i], i, zeroed));
-        i += 1;
+    for (i, x) in xs.iter().enumerate() {
+        count = count_unless(count, float_as_stated(*x, i, zeroed));
     }
     count
 }
 
 // The number, and how many words and floats are not as stated: zero in the room of a call that is done, else as lent.
-fn tell_scratch(a: Answer, n: usize, words: &[u32], floats: &[f32]) {
-    say(b" number");
-    say_word(a.number);
-    say(b", not as stated: words ");
-    say_number(differing_words(words, zeroed_words(a, n)));
-    say(b" floats ");
-    say_number(differing_floats(floats, zeroed_floats(a, n)));
-    say(b"\n");
+fn tell_scratch(
+    rt: &impl Print,
+    a: Answer,
+    n: usize,
+    words: &[u32],
+    floats: &[f32],
+) -> io::Result<()> {
+    say(rt, b" number")?;
+    say_word(rt, a.number)?;
+    say(rt, b", not as stated: words ")?;
+    say_number(rt, differing_words(words, zeroed_words(a, n)))?;
+    say(rt, b" floats ")?;
+    say_number(rt, differing_floats(floats, zeroed_floats(a, n)))?;
+    say(rt, b"\n")
 }
 
-fn tell_rows(table: &[u32], len: usize, width: usize) {
+fn tell_rows(rt: &impl Print, table: &[u32], len: usize, width: usize) -> io::Result<()> {
     let l = least(len, table.len());
-    say_rows(&table[0..l], width);
+    say_rows(rt, &table[0..l], width)
 }
 
-fn tell_build(a: Answer, c: Case, wide: &[u32], closed: &[u32], words: &[u32], floats: &[f32]) {
-    say(b"build");
-    tell_scratch(a, c.n, words, floats);
-    say(b"wide\n");
-    tell_rows(wide, c.wide, c.k);
-    say(b"closed\n");
-    tell_rows(closed, c.closed, c.params.degree);
+fn tell_build(
+    rt: &impl Print,
+    a: Answer,
+    c: Case,
+    wide: &[u32],
+    closed: &[u32],
+    words: &[u32],
+    floats: &[f32],
+) -> io::Result<()> {
+    say(rt, b"build")?;
+    tell_scratch(rt, a, c.n, words, floats)?;
+    say(rt, b"wide\n")?;
+    tell_rows(rt, wide, c.wide, c.k)?;
+    say(rt, b"closed\n")?;
+    tell_rows(rt, closed, c.closed, c.params.degree)
 }
 
-fn tell_batch(a: Answer, c: Case, table: &[u32], words: &[u32], floats: &[f32]) {
-    say(b"batch");
-    tell_scratch(a, c.n, words, floats);
-    tell_rows(table, c.table, c.k);
+fn tell_batch(
+    rt: &impl Print,
+    a: Answer,
+    c: Case,
+    table: &[u32],
+    words: &[u32],
+    floats: &[f32],
+) -> io::Result<()> {
+    say(rt, b"batch")?;
+    tell_scratch(rt, a, c.n, words, floats)?;
+    tell_rows(rt, table, c.table, c.k)
 }
 
 pub fn tell_case(
+    rt: &impl Print,
     a: Answer,
     c: Case,
     table: &[u32],
@@ -166,15 +186,15 @@ pub fn tell_case(
     floats: &[f32],
     ids: &[u32],
     dists: &[f32],
-) {
+) -> io::Result<()> {
     let kind = c.kind;
     match kind {
-        7 => tell_build(a, c, wide, closed, words, floats),
-        8 => tell_batch(a, c, table, words, floats),
+        7 => tell_build(rt, a, c, wide, closed, words, floats),
+        8 => tell_batch(rt, a, c, table, words, floats),
         _ => {
-            say_answer(a);
-            say_left(c, table, wide, closed, words, floats, ids, dists);
-            say(b"\n");
+            say_answer(rt, a)?;
+            say_left(rt, c, table, wide, closed, words, floats, ids, dists)?;
+            say(rt, b"\n")
         }
     }
 }

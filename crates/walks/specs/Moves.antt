@@ -289,7 +289,8 @@ module _ {M : Type 1} {𝓤 : Ura M} {𝓛 : Logic 𝓤} {K : Type 0} {Γ : List
     {C : Calls 𝓤 𝓛.H} {Λ : Loops 𝓤 𝓛.H} where
   open 𝓛 use {H}
 
-  pub goes_on : K → (b : Body) (q : Post 𝓤 H) → Step K 𝓛 Γ (runs C Λ E b q) Γ (runs C Λ E skip (any_q (after_seq 𝓤 H (Wp 𝓤 H C Λ E b (post 𝓤 H q)) (post 𝓤 H q))))
+  pub goes_on : K → (b : Body) (q : Post 𝓤 H)
+      → Step K 𝓛 Γ (runs C Λ E b q) Γ (runs C Λ E skip (any_q (after_seq 𝓤 H (Wp 𝓤 H C Λ E b (post 𝓤 H q)) (post 𝓤 H q))))
   goes_on t b q = step (λ s. skips t $ exec t C Λ E b q $ s)
 
 -- ---- the operands of a call, each a local as it is

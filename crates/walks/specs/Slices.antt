@@ -98,7 +98,8 @@ module _ {M : Type 1} {𝓤 : Ura M} {𝓛 : Logic 𝓤} {K : Type 0} {Γ : List
       let ys : List R.Denot = x.now in
       fsplit t $ pure_l t (mut_slice_at R x (mut_slice_vals x)) (λ p. fsplit t $ opens_slice t z R ys b o $ lft_new t z (λ ν. move t (1 ∷ []) $
       use1 𝓛 (‵ (cells (mem R) ys b o)) (whole_in 𝓛 R ys b o) $
-      use1 𝓛 (later (some (λ (δ : GName). ‵ ((MutSlice ℓ' (ν ∷ []) R).own_val (under x δ) (mut_slice_vals x)) ⊛ ‵ (flent (ν ∷ []) (Held R (length ys) b o δ)))))
+      use1 𝓛 (later (some (λ (δ : GName). ‵ ((MutSlice ℓ' (ν ∷ []) R).own_val (under x δ) (mut_slice_vals x))
+      ⊛ ‵ (flent (ν ∷ []) (Held R (length ys) b o δ)))))
       (lends_slice 𝓛 R ℓ' (ν ∷ []) ys b o p.1) $ await t z $ pick t (λ δ. split t $
       -- [the new slice; the lender's part at ν; ν's token; the open borrow at κ; obs; auth]
       move t (4 ∷ 5 ∷ []) $ fjoin t $ move t (4 ∷ 0 ∷ []) $ fjoin t $ move t (2 ∷ 0 ∷ []) $ fjoin t $ move t (1 ∷ 2 ∷ 0 ∷ []) $ k (ν, δ, p.1))))

@@ -12,11 +12,14 @@ loop-k-init c = row_start _ _ _ _ c.requires.pooled
 
 pub from_query-dist-requires : goal.from_query-dist-requires
 from_query-dist-requires c =
-    let m = c.requires.measures in record { vector_in = vector_in _ _ _ _ m.vectors_are (c.requires.searchable c.loop-k.k (omega arith) c.if-id.true); query_len = (m.query_is, m.few) }
+    let m = c.requires.measures in
+    let low = c.requires.searchable c.loop-k.k (omega arith) c.if-id.true in
+    record { vector_in = vector_in _ _ _ _ m.vectors_are low; query_len = (m.query_is, m.few) }
 
 pub add_once-len-requires : goal.add_once-len-requires
 add_once-len-requires c =
-    let low = c.requires.searchable c.loop-k.k (omega arith) c.if-id.true in record { pooled = c.loop-k.invariant.added.pooled; n_bound = (c.requires.n_bound, low) }
+    let low = c.requires.searchable c.loop-k.k (omega arith) c.if-id.true in
+    record { pooled = c.loop-k.invariant.added.pooled; n_bound = (c.requires.n_bound, low) }
 
 pub loop-k-preserved : goal.loop-k-preserved
 loop-k-preserved c =

@@ -14,7 +14,12 @@ loop-k-init c =
 
 pub add_walk-s-requires : goal.add_walk-s-requires
 add_walk-s-requires c =
-    let room = c.requires.seeds_bound.0 in record { walkable = c.requires.walkable; epoch_bound = (omega (arith, c.loop-k.invariant.1), c.loop-k.invariant.2.holding); start_lt_n = c.requires.below c.loop-k.k (omega arith) }
+    let room = c.requires.seeds_bound.0 in
+    record {
+      walkable = c.requires.walkable;
+      epoch_bound = (omega (arith, c.loop-k.invariant.1), c.loop-k.invariant.2.holding);
+      start_lt_n = c.requires.below c.loop-k.k (omega arith);
+    }
 
 pub loop-k-preserved : goal.loop-k-preserved
 loop-k-preserved c =
@@ -31,4 +36,9 @@ shape_of-words c = c.loop-k.invariant.2.kept.size
 
 pub returns : goal.returns
 returns c =
-    let d = from_query c.args.p.dim c.args.vectors.now c.args.query.now in record { grown = rw (joined-all (visits c.args.p d c.args.wide.now) c.args.seeds.now c.loop-k.k (omega arith)) at c.loop-k.invariant.2; epoch_value = omega (arith, c.loop-k.invariant.0, c.loop-k.invariant.1) }
+    let d = from_query c.args.p.dim c.args.vectors.now c.args.query.now in
+    let inv = c.loop-k.invariant in
+    record {
+      grown = rw (joined-all (visits c.args.p d c.args.wide.now) c.args.seeds.now c.loop-k.k (omega arith)) at inv.2;
+      epoch_value = omega (arith, inv.0, inv.1);
+    }

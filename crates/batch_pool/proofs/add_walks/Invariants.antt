@@ -10,7 +10,9 @@ use Rattle.batch_pool.proofs.add_walks.Given as goal
 
 abbrev pub invariant-loop-k : goal.invariant-loop-k
 invariant-loop-k l =
-    (l.k ≤ length l.seeds) × (l.s.epoch ≡ l.initial.s.epoch + l.k) × Grown l.p l.s.epoch (stage l.initial.words l.stamp l.initial.s.len) (stage l.words l.stamp l.s.len)
+    (l.k ≤ length l.seeds)
+    × (l.s.epoch ≡ l.initial.s.epoch + l.k)
+    × Grown l.p l.s.epoch (stage l.initial.words l.stamp l.initial.s.len) (stage l.words l.stamp l.s.len)
     (joined (map (visits l.p (from_query l.p.dim l.vectors l.query) l.wide) (take l.k l.seeds))) (from_query l.p.dim l.vectors l.query)
 
 abbrev pub decreases-loop-k : goal.decreases-loop-k

@@ -11,8 +11,8 @@ loop-i-preserved c =
     let more = c.loop-i-test.true in
     let leads = c.loop-i.invariant in
     elim c.if-s-least.branch [
-    | then-s-least w ↦ rw (w.id-is, w.least-is) (lead_taken _ _ _ _ _ _ _ more c.score-s.ensures leads w.if-s-least.true)
-    | else-s-least w ↦ rw (w.id-is, w.least-is) (lead_kept _ _ _ _ _ _ _ more c.score-s.ensures leads w.if-s-least.false)
+      | then-s-least w ↦ rw (w.id-is, w.least-is) (lead_taken _ _ _ _ _ _ _ more c.score-s.ensures leads w.if-s-least.true)
+      | else-s-least w ↦ rw (w.id-is, w.least-is) (lead_kept _ _ _ _ _ _ _ more c.score-s.ensures leads w.if-s-least.false)
     ]
 
 pub returns : goal.returns

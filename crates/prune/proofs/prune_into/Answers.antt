@@ -5,7 +5,13 @@ use Rattle.prune.proofs.prune_into.Goals as goal
 
 pub prune_neighbors-requires : goal.prune_neighbors-requires
 prune_neighbors-requires c =
-    let l = stretch_length c.args.table.now c.args.place c.args.width c.requires.in_bounds.2 in record { measurable = c.requires.measurable; distinct = c.requires.distinct; in_bounds = (c.requires.in_bounds.0, omega (arith, l, c.requires.in_bounds.1)) }
+    let r = c.requires in
+    let l = stretch_length c.args.table.now c.args.place c.args.width r.in_bounds.2 in
+    record {
+      measurable = r.measurable;
+      distinct = r.distinct;
+      in_bounds = (r.in_bounds.0, omega (arith, l, r.in_bounds.1));
+    }
 
 pub returns : goal.returns
 returns c =

@@ -15,7 +15,11 @@ loop-j-init c = shading_start (omega arith) (omega arith)
 
 pub from_query-apart-requires : goal.from_query-apart-requires
 from_query-apart-requires c =
-    let In = VectorIn c.args.dim c.args.vectors.now in record { vector_in = subst In (sym c.index_of-other.ensures) (all_at In 0 c.args.ids.now c.requires.measurable.rows c.loop-j.j (omega arith)); query_len = (c.requires.factors_len.2, c.requires.measurable.narrow) }
+    let In = VectorIn c.args.dim c.args.vectors.now in
+    record {
+      vector_in = subst In (sym c.index_of-other.ensures) (all_at In 0 c.args.ids.now c.requires.measurable.rows c.loop-j.j (omega arith));
+      query_len = (c.requires.factors_len.2, c.requires.measurable.narrow);
+    }
 
 pub raised-requires : goal.raised-requires
 raised-requires c =
@@ -26,12 +30,13 @@ raised-requires c =
 pub loop-j-preserved : goal.loop-j-preserved
 loop-j-preserved c =
     let l = c.loop-j in
+    let m = c.requires.measurable in
     let h : l.j < length c.args.ids.now = omega arith in
     elim c.if-not-target-factor.branch [
       | then-not-target-factor w ↦
           rw w.factors-is
-          (shading_raise c.requires.measurable l.invariant h (rw w.index_of-other.ensures at w.from_query-apart.ensures) w.if-not-target-factor.true w.raised.ensures)
-      | else-not-target-factor w ↦ rw w.factors-is (shading_skip c.requires.measurable l.invariant h w.if-not-target-factor.false)
+          (shading_raise m l.invariant h (rw w.index_of-other.ensures at w.from_query-apart.ensures) w.if-not-target-factor.true w.raised.ensures)
+      | else-not-target-factor w ↦ rw w.factors-is (shading_skip m l.invariant h w.if-not-target-factor.false)
     ]
 
 pub returns : goal.returns

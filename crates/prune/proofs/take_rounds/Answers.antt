@@ -20,7 +20,13 @@ loop-i-init c = walk_first c.rounds.invariant
 pub shade_later-requires : goal.shade_later-requires
 shade_later-requires c =
     let l = c.loop-i in
-    let In = VectorIn c.args.dim c.args.vectors.now in record { measurable = c.requires.measurable; factors_len = (length-set l.factors l.i _ ∙ l.invariant.nf, omega arith); vector_in = subst In (sym c.index_of-taken.ensures) (all_at In 0 c.args.ids.now c.requires.measurable.rows l.i (omega arith)) }
+    let m = c.requires.measurable in
+    let In = VectorIn c.args.dim c.args.vectors.now in
+    record {
+      measurable = m;
+      factors_len = (length-set l.factors l.i _ ∙ l.invariant.nf, omega arith);
+      vector_in = subst In (sym c.index_of-taken.ensures) (all_at In 0 c.args.ids.now m.rows l.i (omega arith));
+    }
 
 pub loop-i-preserved : goal.loop-i-preserved
 unfolding largest
@@ -41,8 +47,9 @@ loop-i-preserved c =
 
 pub rounds-preserved : goal.rounds-preserved
 rounds-preserved c =
-    let g = c.rounds in
-    rw c.next_alpha-current.ensures (again g.invariant c.requires.measurable.same c.loop-i.invariant (omega arith) (omega arith) c.if-current-target.true g.invariant.nr)
+    let inv = c.rounds.invariant in
+    rw c.next_alpha-current.ensures
+    (again inv c.requires.measurable.same c.loop-i.invariant (omega arith) (omega arith) c.if-current-target.true inv.nr)
 
 pub returns-then-degree-count : goal.returns-then-degree-count
 returns-then-degree-count c =

@@ -4,21 +4,20 @@ use Prim.Native.Nat.{◌-◌}
 use native.Mathlib.Omega.{arith}
 use borrow.Author.Rules.{rules}
 use Rattle.seek_answer.proofs.Texts.{values_bad, values_good}
-use borrow.Author.Tests.{not-true, not-false}
 use Rattle.seek_answer.proofs.answer_values.Goals as goal
 
 pub returns-then-not-take_search : goal.returns-then-not-take_search
 returns-then-not-take_search c =
-    values_bad c.take_search.ensures (not-true _ c.if-not-take_search.true) c.put_refused.ensures
+    values_bad c.take_search.ensures c.if-not-take_search.true c.put_refused.ensures
 
 pub search_values-requires : goal.search_values-requires
 search_values-requires c =
     let k = c.take_search.auto in
     let r = c.requires in record {
-      ready = c.take_search.ensures.ready (not-false _ c.if-not-take_search.false);
+      ready = c.take_search.ensures.ready c.if-not-take_search.false;
       room = record {
-        vectors_room = omega (arith, r.vectors_room, k.1.0);
-        query_room = omega (arith, r.query_room, k.1.1.0);
+        vectors_room = omega (arith, r.vectors_room, k.vectors);
+        query_room = omega (arith, r.query_room, k.query);
         words_room = r.words_room;
         floats_room = r.floats_room;
         ids-room = r.ids-room;
@@ -29,4 +28,4 @@ search_values-requires c =
 
 pub returns : goal.returns
 returns c =
-    values_good _ (sym c.take_search.ensures.says ∙ not-false _ c.if-not-take_search.false) c.search_values.ensures
+    values_good _ (sym c.take_search.ensures.says ∙ c.if-not-take_search.false) c.search_values.ensures
