@@ -1,14 +1,10 @@
 -- `run_batches` meets its contract. The invariant: the batches that are left of the order, on the table as it is, give what all give on the opened one; and
 -- no mark is past the epoch.
-use mathlib.Core.Path.{sym, ◌∙◌}
-use Prim.Native.Nat.{◌*◌, ◌-◌, ◌≤◌, ◌<◌}
-use native.Mathlib.Omega.{arith}
-use lib.ListN.{length}
+use Prim.Native.Nat.{◌-◌}
 use Rattle.given.specs.Given.{given}
 use Rattle.given.specs.Listing.{listing}
 use Rattle.given.specs.Held.{held}
-use Rattle.build.specs.Runs.{RunsReady, Running, marks_fit, begun_ready, runs_start, runs_done, runs_end, end_most, end_later, seeds_fit, run_asks}
-use Rattle.build.specs.Runs.{runs_more}
+use Rattle.build.specs.Runs.{Running}
 use Rattle.build.proofs.run_batches.Given as goal
 
 abbrev pub invariant-loop-at : goal.invariant-loop-at
