@@ -1,5 +1,5 @@
 -- What the printing functions leave.
-use Rattle.std.specs.Prelude.{◌≡◌, List, [], ◌∷◌, ◌++◌, ℕ, zero, suc, ◌+◌, ◌-◌, ◌≤◌, ◌<◌, length, take, get_or, Float}
+use Rattle.std.specs.Prelude.{◌≡◌, List, [], ◌∷◌, ◌++◌, ℕ, zero, suc, ◌+◌, ◌≤◌, ◌<◌, length, take, get_or, Float}
 use Rattle.std.proofs.Common.{ap, arith, length-take}
 use Rattle.std.specs.Float.{nan}
 use Rattle.whole.specs.Whole.{count, IsWhole}
