@@ -5,9 +5,6 @@ use Rattle.recall.proofs.Tallying.{go_start, query_fits, query_room, go_on, go_e
 use Rattle.recall.proofs.all_queries.Goals as goal
 use Rattle.recall.proofs.all_queries.Goals.{then-hits-each, else-hits-each}
 
-pub first_epoch-epoch-requires : goal.first_epoch-epoch-requires
-first_epoch-epoch-requires c = omega (arith, c.requires.queries_accepted.report.word_room)
-
 pub loop-q-init : goal.loop-q-init
 loop-q-init c = (go_start _ _ c.first_epoch-epoch.ensures, record { ids_long = refl; dists_long = refl; near_long = refl; apart_long = refl })
 

@@ -1,5 +1,5 @@
 -- `report_accepted`. What is asked of the queries is the definition's, and what they leave of the room is cleared.
-use Rattle.std.proofs.Common.{refl, ◌≤◌, arith, mul-le-mul}
+use Rattle.std.proofs.Common.{refl}
 use Rattle.definition.specs.Outcome.{query_count, asked_each}
 use Rattle.recall.specs.Asking.{call_of}
 use Rattle.recall.proofs.Reporting.{done_is}
@@ -13,11 +13,6 @@ all_queries-t-requires c =
       count_value = refl;
       each_value = c.least-each.ensures;
     }
-
-pub overflow_mul-count : goal.overflow_mul-count
-unfolding query_count
-overflow_mul-count c =
-    let each : c.least-each.result ≤ 256 = omega (arith, c.least-each.ensures, c.requires.k_few) in omega (arith, mul-le-mul c.requires.queries_few each)
 
 pub returns : goal.returns
 unfolding query_count asked_each
