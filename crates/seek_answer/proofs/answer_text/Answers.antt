@@ -1,6 +1,4 @@
 -- `answer_text`: 13 for a text that is too long, and the answer of the values that it says for any other.
-use Prim.Native.Nat.{◌-◌}
-use borrow.Author.Rules.{rules}
 use Rattle.seek_answer.proofs.Texts.{text_long, text_read}
 use Rattle.seek_answer.proofs.answer_text.Goals as goal
 

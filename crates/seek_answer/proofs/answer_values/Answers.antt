@@ -1,8 +1,6 @@
 -- `answer_values`: 13 for values that are not well formed, and the search for those that are.
 use mathlib.Core.Path.{sym, ◌∙◌}
-use Prim.Native.Nat.{◌-◌}
 use native.Mathlib.Omega.{arith}
-use borrow.Author.Rules.{rules}
 use Rattle.seek_answer.proofs.Texts.{values_bad, values_good}
 use Rattle.seek_answer.proofs.answer_values.Goals as goal
 
