@@ -1,6 +1,6 @@
 -- What is read: a part behind the part before it, and a whole text, as the answer sees it.
-use Rattle.std.specs.Prelude.{◌≡◌, Option, Some, None, Result, Ok, Err, IfOk, List, [], ◌++◌, ℕ, ◌+◌, ◌≤◌, ◌<◌, length, take, IfSome}
-use Rattle.std.proofs.Common.{sym, ap, ◌∙◌, append-nil, length-take-le}
+use Rattle.std.specs.Prelude.{◌≡◌, Option, Some, None, Result, Ok, Err, IfOk, List, ◌++◌, ℕ, ◌+◌, ◌≤◌, ◌<◌, length, take, IfSome}
+use Rattle.std.proofs.Common.{sym, ap, ◌∙◌, length-take-le}
 use Rattle.std.proofs.lemmas.List.{take-append-le}
 use Rattle.std.proofs.Math.Seq.{take-append-add}
 use Rattle.std.specs.Io.KnownBytes.{Consumes, IsAtEnd}

@@ -1,5 +1,5 @@
 -- What is known of a text that was read, and of the bytes that are handed over for it.
-use Rattle.std.specs.Prelude.{◌≡◌, refl, Bool, true, false, List, [], ◌++◌, ℕ, ◌-◌, ◌≤◌, ◌<◌, ltb, length, take}
+use Rattle.std.specs.Prelude.{◌≡◌, refl, Bool, true, false, List, [], ◌++◌, ℕ, ◌≤◌, ◌<◌, ltb, length, take}
 use Rattle.std.proofs.Common.{sym, ◌∙◌, append-nil, arith, ltb-true, ltb-false, length-append}
 use Rattle.std.proofs.Math.Nat.{sub-zero}
 use Rattle.definition.specs.Seek.{most_input, seek}
