@@ -1,15 +1,13 @@
 -- "A batch runs at most 256 x 17 searches from an epoch of 1, and a whole build at most 65,536 x 17." How many greedy searches a batch and a whole build make
 -- that are accepted: by the definition one from the start and one from each seed, for each listed node. And so the greatest epoch of any call: far below the
 -- last that a word can hold, so that it is an ordinary sum.
-use Rattle.std.specs.Prelude.{ℕ, ◌+◌, ◌*◌, ◌≤◌, ◌<◌, ◌≡◌, refl, List, [], ◌∷◌, length}
+use Rattle.std.specs.Prelude.{ℕ, ◌+◌, ◌*◌, ◌≤◌, ◌<◌, ◌≡◌, List, length}
 use Rattle.std.proofs.Common.{mul-one, mul-add, arith, ap, ◌∙◌}
 use Rattle.definition.specs.Lists.{groups}
 use Rattle.definition.specs.Build.{open'}
-use Rattle.definition.specs.Refusals.{BatchCall, BuildCall, batch_number, build_number}
+use Rattle.definition.specs.Refusals.{BatchCall, BuildCall}
 use Rattle.definition.specs.Outcome.{setting_of}
-use Rattle.theory.specs.build.Walks.{Walk, walk, node_walks, batch_walks, run_walks, batch-walks, run-walks, epoch_after, epoch_end, walks_most}
-use Rattle.accepted.specs.Checks.{extra_good}
-use Rattle.accepted.specs.Build.{batch-accepted, build_accepted}
+use Rattle.theory.specs.build.Walks.{Walk, batch_walks, run_walks, epoch_after, epoch_end, walks_most}
 
 -- the searches of a batch, and of a whole build, in their order
 abbrev pub batch_walks_of : BatchCall → List Walk
@@ -27,33 +25,9 @@ pub record Walked (walks : List Walk) (nodes extra most : ℕ) : Type 0 where
   pub epoch_most : epoch_after 1 walks ≤ 1 + most * 17
   pub epoch_fits : epoch_after 1 walks < epoch_end
 
-from_each : (nodes extra : ℕ) → nodes * (1 + extra) ≡ nodes + nodes * extra
-from_each nodes extra = mul-add nodes 1 extra ∙ ap (λ (m : ℕ). m + nodes * extra) (mul-one nodes)
-
-pub batch-walked : (c : BatchCall) → batch_number c ≡ 0 → Walked (batch_walks_of c) (length c.nodes) c.params.extra 256
-batch-walked c e =
-    let a = batch-accepted c e in
-    let size = a.seeds.size in
-    let many = batch-walks c.wide c.start c.params.extra c.nodes c.seeds size in
-    let each = from_each (length c.nodes) c.params.extra in
-    let all = walks_most a.nodes_few (extra_good c.n c.params.extra a.seeds.limits).0 in
+pub walked : (walks : List Walk) (nodes extra most : ℕ) → length walks ≡ nodes + nodes * extra → nodes ≤ most → most ≤ 65536 → extra ≤ 16
+    → Walked walks nodes extra most
+walked walks nodes extra most e h low k =
+    let each : nodes * (1 + extra) ≡ nodes + nodes * extra = mul-add nodes 1 extra ∙ ap (λ (m : ℕ). m + nodes * extra) (mul-one nodes) in
+    let all = walks_most h k in
     record { count = omega arith; few = omega arith; epoch_most = omega arith; epoch_fits = omega arith }
-
-pub build_walked : (c : BuildCall) → build_number c ≡ 0 → Walked (build_walks_of c) c.n c.params.extra 65536
-build_walked c e =
-    let a = build_accepted c e in
-    let g = setting_of c.n c.dim c.vectors c.params in
-    let opened = open' c.n c.params.degree c.opening in
-    let size = a.seeds.size in
-    let order = a.order_is in
-    let same : length c.order * c.params.extra ≡ c.n * c.params.extra = ap (λ (k : ℕ). k * c.params.extra) order in
-    let many = run-walks g c.start c.params.extra (length c.order) c.order c.seeds opened (omega arith) (omega arith) in
-    let each = from_each c.n c.params.extra in
-    let all = walks_most a.entries.nodes (extra_good c.n c.params.extra a.seeds.limits).0 in
-    record { count = omega arith; few = omega arith; epoch_most = omega arith; epoch_fits = omega arith }
-
--- two nodes with two seeds each, from start 9: in this order
-pub two_nodes : (wide : List ℕ) → batch_walks wide 9 (3 ∷ 5 ∷ []) (groups 2 2 (1 ∷ 2 ∷ 7 ∷ 4 ∷ []))
-    ≡ walk wide 3 9 ∷ walk wide 3 1 ∷ walk wide 3 2 ∷ walk wide 5 9 ∷ walk wide 5 7 ∷ walk wide 5 4 ∷ []
-unfolding batch_walks node_walks groups
-two_nodes wide = refl
