@@ -1,11 +1,10 @@
 -- How many searches an accepted batch and an accepted whole build make, and the epoch that they come to.
-use Rattle.std.specs.Prelude.{ℕ, ◌*◌, ◌≡◌, refl, List, [], ◌∷◌, length}
+use Rattle.std.specs.Prelude.{ℕ, ◌*◌, ◌≡◌, length}
 use Rattle.std.proofs.Common.{arith, ap}
-use Rattle.definition.specs.Lists.{groups}
 use Rattle.definition.specs.Build.{open'}
 use Rattle.definition.specs.Refusals.{BatchCall, BuildCall, batch_number, build_number}
 use Rattle.definition.specs.Outcome.{setting_of}
-use Rattle.theory.specs.build.Walks.{walk, node_walks, batch_walks, batch-walks, run-walks}
+use Rattle.theory.specs.build.Walks.{batch-walks, run-walks}
 use Rattle.accepted.specs.Checks.{extra_good}
 use Rattle.accepted.specs.Build.{batch-accepted, build_accepted}
 use Rattle.promises.specs.Walking.{batch_walks_of, build_walks_of, Walked, walked}
@@ -29,9 +28,3 @@ build_walked c e =
     let many = run-walks g c.start c.params.extra (length c.order) c.order c.seeds opened (omega arith) (omega arith) in
     walked (build_walks_of c) c.n c.params.extra 65536 (omega arith) a.entries.nodes (omega arith)
     (extra_good c.n c.params.extra a.seeds.limits).0
-
--- two nodes with two seeds each, from start 9: in this order
-pub two_nodes : (wide : List ℕ) → batch_walks wide 9 (3 ∷ 5 ∷ []) (groups 2 2 (1 ∷ 2 ∷ 7 ∷ 4 ∷ []))
-    ≡ walk wide 3 9 ∷ walk wide 3 1 ∷ walk wide 3 2 ∷ walk wide 5 9 ∷ walk wide 5 7 ∷ walk wide 5 4 ∷ []
-unfolding batch_walks node_walks groups
-two_nodes wide = refl

@@ -1,6 +1,9 @@
 -- "A batch runs at most 256 x 17 searches from an epoch of 1, and a whole build at most 65,536 x 17." How many greedy searches a batch and a whole build make
 -- that are accepted: by the definition one from the start and one from each seed, for each listed node. And so the greatest epoch of any call: far below the
 -- last that a word can hold, so that it is an ordinary sum.
+use Rattle.theory.specs.build.Walks.{Walk, walk, node_walks, batch_walks, run_walks, epoch_after, epoch_end, walks_most}
+use Rattle.definition.specs.Refusals.{BatchCall, BuildCall}
+use Rattle.std.specs.Prelude.{ℕ, ◌+◌, ◌*◌, ◌≤◌, ◌<◌, ◌≡◌, refl, List, [], ◌∷◌, length}
 use Rattle.std.specs.Prelude.{ℕ, ◌+◌, ◌*◌, ◌≤◌, ◌<◌, ◌≡◌, List, length}
 use Rattle.std.proofs.Common.{mul-one, mul-add, arith, ap, ◌∙◌}
 use Rattle.definition.specs.Lists.{groups}
@@ -31,3 +34,9 @@ walked walks nodes extra most e h low k =
     let each : nodes * (1 + extra) ≡ nodes + nodes * extra = mul-add nodes 1 extra ∙ ap (λ (m : ℕ). m + nodes * extra) (mul-one nodes) in
     let all = walks_most h k in
     record { count = omega arith; few = omega arith; epoch_most = omega arith; epoch_fits = omega arith }
+
+-- two nodes with two seeds each, from start 9: in this order
+pub two_nodes : (wide : List ℕ) → batch_walks wide 9 (3 ∷ 5 ∷ []) (groups 2 2 (1 ∷ 2 ∷ 7 ∷ 4 ∷ []))
+    ≡ walk wide 3 9 ∷ walk wide 3 1 ∷ walk wide 3 2 ∷ walk wide 5 9 ∷ walk wide 5 7 ∷ walk wide 5 4 ∷ []
+unfolding batch_walks node_walks groups
+two_nodes wide = refl
