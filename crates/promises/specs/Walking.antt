@@ -1,16 +1,13 @@
 -- "A batch runs at most 256 x 17 searches from an epoch of 1, and a whole build at most 65,536 x 17." How many greedy searches a batch and a whole build make
 -- that are accepted: by the definition one from the start and one from each seed, for each listed node. And so the greatest epoch of any call: far below the
 -- last that a word can hold, so that it is an ordinary sum.
-use Rattle.theory.specs.build.Walks.{Walk, walk, node_walks, batch_walks, run_walks, epoch_after, epoch_end, walks_most}
-use Rattle.definition.specs.Refusals.{BatchCall, BuildCall}
 use Rattle.std.specs.Prelude.{ℕ, ◌+◌, ◌*◌, ◌≤◌, ◌<◌, ◌≡◌, refl, List, [], ◌∷◌, length}
-use Rattle.std.specs.Prelude.{ℕ, ◌+◌, ◌*◌, ◌≤◌, ◌<◌, ◌≡◌, List, length}
 use Rattle.std.proofs.Common.{mul-one, mul-add, arith, ap, ◌∙◌}
 use Rattle.definition.specs.Lists.{groups}
 use Rattle.definition.specs.Build.{open'}
 use Rattle.definition.specs.Refusals.{BatchCall, BuildCall}
 use Rattle.definition.specs.Outcome.{setting_of}
-use Rattle.theory.specs.build.Walks.{Walk, batch_walks, run_walks, epoch_after, epoch_end, walks_most}
+use Rattle.theory.specs.build.Walks.{Walk, walk, node_walks, batch_walks, run_walks, epoch_after, epoch_end, walks_most}
 
 -- the searches of a batch, and of a whole build, in their order
 abbrev pub batch_walks_of : BatchCall → List Walk
