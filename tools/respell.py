@@ -19,7 +19,7 @@ TOKEN = re.compile(r"\"(?:[^\"\\\n]|\\.)*\"|(?<![^\s(){}.;,])--[^\n]*|" + WORD +
 HEAD = re.compile(r"^(?P<in> *)(?:(?:pub|abbrev|unfoldable|opaque|private|mutual) )*(?:record |data )?(?P<name>" + WORD + r")(?: [({][^\n]*?)? :(?: |$)", re.M)
 USE = re.compile(r"^( *(?:pub )?(?:ghost )?use )([^\s{;]+?)(?:\.\{([^}]*)\}|\.(" + WORD + r"))?;?( as \S+)?$", re.M)
 # What the names of the older library's words were turned to.
-WORDS = {"getD": "get_or", "eqb": "eqb"}
+WORDS = {"getD": "get_or"}
 # Two names that would meet, and names whose parts read better otherwise.
 BY_HAND = {"in-float": "in_float_lem", "in-unsigned": "in_unsigned_lem", "open_done": "open_done_lem"}
 # As above, but only in the files below these folders: elsewhere a function of the code has the name.
@@ -96,14 +96,13 @@ def foreign(text, crates):
 
 
 def turned(text, rows, keep):
-    last = [""]
-
     def one(m):
         it = m[0]
         if it.startswith('"'):
             return it
         if it.startswith("--"):
-            return re.sub(WORD, lambda w: rows[w[0]] if w[0] in rows and w[0] not in keep and re.search(r"[A-Z]|-", w[0]) and re.search(r"[a-z][A-Z]", w[0]) else w[0], it)
+            # of a comment only words with an inner capital: others may be English
+            return re.sub(WORD, lambda w: rows[w[0]] if w[0] in rows and w[0] not in keep and re.search(r"[a-z][A-Z]", w[0]) else w[0], it)
         return rows[it] if it in rows and it not in keep else it
 
     return TOKEN.sub(one, text)
@@ -111,7 +110,7 @@ def turned(text, rows, keep):
 
 def clauses(text, rows, keep):
     """Turns what antt reads of a .rt file: `ghost use` items, clauses, ghost members."""
-    out, depth, at = [], 0, 0
+    out, at = [], 0
     for m in re.finditer(r"(?m)^ *ghost use [^;]*;|^ *(?:requires|ensures|ghost)\*? ?(?:\w+)?:? ?(?=\{)", text):
         if m.start() < at:
             continue
