@@ -9,9 +9,9 @@
 --   Tables, Slack   tables and their rules                     Draws      part 10
 --   Beam            part 2                                     Refusals   what each public call is given, and its number
 --   Greedy          parts 3 and 4                              Outcome    what each public call leaves, as its contract cites it
---   Prune           part 5                                     Seek       the program `seek`, bytes to bytes
---   Batch, Build    parts 6 and 7                              checked    computed examples: document 01's samples, lookups, recall, whole builds
---   Recall          1/13 of document 02
+--   Prune           part 5                                     Numbers    the reasons for a refusal, as the code calls them
+--   Batch, Build    parts 6 and 7                              Seek       the program `seek`, bytes to bytes
+--   Recall          1/13 of document 02                        checked    computed examples: document 01's samples, lookups, recall, whole builds
 pub mod Lists
 pub mod Floats
 pub mod Metric
@@ -28,6 +28,7 @@ pub mod Recall
 pub mod Draws
 pub mod Defaults
 pub mod Refusals
+pub mod Numbers
 pub mod Outcome
 pub mod Seek
 pub mod checked

@@ -1,8 +1,10 @@
-// The records that the definition speaks of: what a public call returns, the build parameters, one answer of a search, and the report of recall.
+// The types that the definition speaks of: what a public call returns, why one is refused, the build parameters, one answer of a search, and the report of
+// recall.
 #![tactic(auto)]
 
 ghost use Rattle.std.specs.Prelude.{◌≡◌};
 ghost use Rattle.definition.specs.Defaults.{defaults};
+ghost use Rattle.definition.specs.Numbers.{number};
 
 // What every public call returns: its number, and the fields that it fills. A search fills the last two: how many entries' rows it walked, and how many
 // distances it worked out.
@@ -16,6 +18,33 @@ pub struct Answer {
     pub distance: f32,
     pub expanded: usize,
     pub measured: usize,
+}
+
+// Why a call is refused: the check that holds first, under the number that its answer has.
+#[derive(Clone, Copy, Debug, PartialEq, Eq)]
+pub enum Refusal {
+    Dimension = 1,
+    Entries = 2,
+    Degree = 3,
+    Beam = 4,
+    Alpha = 5,
+    Start = 6,
+    Seeds = 7,
+    Table = 8,
+    Nodes = 9,
+    Room = 10,
+    Query = 11,
+    Pivots = 12,
+    Text = 13,
+    Nearest = 14,
+}
+
+impl From<Refusal> for u32 {
+    ghost from_gives = { λ refusal k. k ≡ number refusal };
+
+    fn from(refusal: Refusal) -> u32 {
+        refusal as u32
+    }
 }
 
 // The build parameters.

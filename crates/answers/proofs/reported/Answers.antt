@@ -1,8 +1,0 @@
--- `reported` meets its contract: by computation.
-use mathlib.Core.Path.{refl}
-use Rattle.definition.specs.Outcome.{reported}
-use Rattle.answers.proofs.reported.Goals as goal
-
-pub returns : goal.returns
-unfolding reported
-returns c = refl
