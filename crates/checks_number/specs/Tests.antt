@@ -2,7 +2,10 @@
 use Rattle.std.specs.Prelude.{◌≡◌, refl, Bool, true, false, ◌&&◌, List, [], ◌∷◌, ◌++◌, ℕ, zero, suc, ◌-◌, ltb, length, take, drop}
 use Rattle.std.proofs.Common.{sym, ◌∙◌, subst, arith, ltb-true}
 use Rattle.std.proofs.lemmas.Bool.{false≢true}
+use Rattle.definition.specs.declared.Refusal.{Refusal}
 use Rattle.definition.specs.Refusals.{◌when◌else◌}
+use Rattle.definition.specs.Numbers.{number}
+use Rattle.laws.specs.Numbers.{number_positive}
 use Rattle.laws.specs.Truth.{and_both, decide}
 use Rattle.accepted.specs.Chain.{past, stop, passed}
 
@@ -93,13 +96,17 @@ cleared (t ∷ ts) p e i =
     at here later (suc j) = later j
 
 -- the number of the first tests, where it is not 0, is that of all
-pub early : (ts us : Tests) {r : ℕ} → r ≡ number_of ts → (r ≡ 0 → ⊥) → r ≡ number_of (ts ++ us)
+early : (ts us : Tests) {r : ℕ} → r ≡ number_of ts → (r ≡ 0 → ⊥) → r ≡ number_of (ts ++ us)
 unfolding number_of
 early [] us e f = absurd (f e)
 early (t ∷ ts) us e f =
     decide t.1
     (λ h. e ∙ stop t.0 t.1 (number_of ts) h ∙ sym (stop t.0 t.1 (number_of (ts ++ us)) h))
     (λ h. early ts us (e ∙ past t.0 t.1 (number_of ts) h) f ∙ sym (past t.0 t.1 (number_of (ts ++ us)) h))
+
+-- what the first tests refuse is refused
+pub refused_early : (ts us : Tests) (refusal : Refusal) → number refusal ≡ number_of ts → number refusal ≡ number_of (ts ++ us)
+refused_early ts us refusal e = let some = number_positive refusal in early ts us e (λ z. omega arith)
 
 -- where it is 0, the number of all is that of the others
 pub cleared_rest : (ts us : Tests) {r : ℕ} → numbered ts ≡ true → number_of ts ≡ 0 → r ≡ number_of us → r ≡ number_of (ts ++ us)

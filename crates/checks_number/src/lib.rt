@@ -1,8 +1,9 @@
-// The number of each public call: that of the first test that holds, in rising order, and 0 for none.
+// The checks of each public call, in rising order of their numbers: the first that holds refuses it.
 // What a call is lent for writing and does not read is given by its length.
 #![tactic(auto)]
 
 ghost use Rattle.std.specs.Prelude.{◌≡◌, ◌≤◌};
+ghost use Rattle.definition.specs.Numbers.{number_told};
 ghost use Rattle.definition.specs.Tables.{cleaned};
 ghost use Rattle.checks_number.specs.Tests.{number_of};
 ghost use Rattle.checks_number.specs.Shared.{entry_tests, param_tests};
@@ -18,73 +19,73 @@ use checks::limits::{
 use checks::rooms::{build_short, search_short};
 use checks::sets::{bad_nodes, bad_order, bad_pivots, bad_seeds};
 use checks::tables::{bad_searched, bad_table, bad_wide};
-use definition::Params;
+use definition::{Params, Refusal};
 
 // 1 and 2, which most calls begin with.
-pub fn entries_number(n: usize, dim: usize, vectors: &[u8]) -> u32
-    ensures { result ≡ number_of (entry_tests n dim vectors.now) }
+pub fn check_entries(n: usize, dim: usize, vectors: &[u8]) -> Result<(), Refusal>
+    ensures { number_told result ≡ number_of (entry_tests n dim vectors.now) }
 {
     if bad_dim(dim) {
-        return 1;
+        return Err(Refusal::Dimension);
     }
     if bad_vectors(n, dim, vectors) {
-        return 2;
+        return Err(Refusal::Entries);
     }
-    0
+    Ok(())
 }
 
 // 1 to 6, which a batch and a whole build begin with.
-fn params_number(n: usize, dim: usize, vectors: &[u8], params: Params, start: u32) -> u32
-    ensures { result ≡ number_of (param_tests n dim vectors.now params start) }
+fn check_params(
+    n: usize,
+    dim: usize,
+    vectors: &[u8],
+    params: Params,
+    start: u32,
+) -> Result<(), Refusal>
+    ensures { number_told result ≡ number_of (param_tests n dim vectors.now params start) }
 {
-    let early = entries_number(n, dim, vectors);
-    if early != 0 {
-        return early;
-    }
+    check_entries(n, dim, vectors)?;
     if bad_degree(params.degree) {
-        return 3;
+        return Err(Refusal::Degree);
     }
     if bad_beam(params.beam) {
-        return 4;
+        return Err(Refusal::Beam);
     }
     if bad_alpha(params.alpha) {
-        return 5;
+        return Err(Refusal::Alpha);
     }
     if bad_start(n, start) {
-        return 6;
+        return Err(Refusal::Start);
     }
-    0
+    Ok(())
 }
 
 // 1 to 6, which a search, a lookup and a report begin with.
-pub fn limits_number(
+pub fn check_limits(
     n: usize,
     dim: usize,
     vectors: &[u8],
     degree: usize,
     beam: usize,
     start: u32,
-) -> u32
-    ensures { result ≡ number_of (limit_tests n dim vectors.now degree beam start) }
+) -> Result<(), Refusal>
+    ensures { number_told result ≡ number_of (limit_tests n dim vectors.now degree beam start) }
 {
-    let early = entries_number(n, dim, vectors);
-    if early != 0 {
-        return early;
-    }
+    check_entries(n, dim, vectors)?;
     if bad_degree(degree) {
-        return 3;
+        return Err(Refusal::Degree);
     }
     if bad_beam(beam) {
-        return 4;
+        return Err(Refusal::Beam);
     }
     if bad_start(n, start) {
-        return 6;
+        return Err(Refusal::Start);
     }
-    0
+    Ok(())
 }
 
 // 10 and 11, which they end with.
-fn lengths_number(
+fn check_lengths(
     n: usize,
     dim: usize,
     beam: usize,
@@ -95,21 +96,21 @@ fn lengths_number(
     ids: usize,
     dists: usize,
     run: usize,
-) -> u32
+) -> Result<(), Refusal>
     requires { n ≤ 65536 }
-    ensures { result ≡ number_of (length_tests n dim beam k query.now words floats ids dists run) }
+    ensures { number_told result ≡ number_of (length_tests n dim beam k query.now words floats ids dists run) }
 {
     if search_short(n, beam, k, words, floats, ids, dists, run) {
-        return 10;
+        return Err(Refusal::Room);
     }
     if query.len() != dim {
-        return 11;
+        return Err(Refusal::Query);
     }
-    0
+    Ok(())
 }
 
 // Of a search, with `run` records beside its two outputs; a search without them gives k.
-pub fn search_number(
+pub fn check_search(
     n: usize,
     dim: usize,
     vectors: &[u8],
@@ -124,21 +125,18 @@ pub fn search_number(
     ids: usize,
     dists: usize,
     run: usize,
-) -> u32
-    ensures { SearchNumbered n dim vectors.now degree beam k start table.now query.now words floats ids dists run result }
+) -> Result<(), Refusal>
+    ensures { SearchNumbered n dim vectors.now degree beam k start table.now query.now words floats ids dists run (number_told result) }
 {
-    let early = limits_number(n, dim, vectors, degree, beam, start);
-    if early != 0 {
-        return early;
-    }
+    check_limits(n, dim, vectors, degree, beam, start)?;
     if bad_searched(n, degree, table) {
-        return 8;
+        return Err(Refusal::Table);
     }
-    lengths_number(n, dim, beam, k, query, words, floats, ids, dists, run)
+    check_lengths(n, dim, beam, k, query, words, floats, ids, dists, run)
 }
 
 // Of a lookup: of its table the length alone is looked at, and so it is the number of the search whose table is cleaned.
-pub fn lookup_number(
+pub fn check_lookup(
     n: usize,
     dim: usize,
     vectors: &[u8],
@@ -152,38 +150,35 @@ pub fn lookup_number(
     floats: usize,
     ids: usize,
     dists: usize,
-) -> u32
+) -> Result<(), Refusal>
     ensures { SearchNumbered n dim vectors.now degree beam k start (cleaned n table.now) query.now
-        words floats ids dists k result }
+        words floats ids dists k (number_told result) }
 {
-    let early = limits_number(n, dim, vectors, degree, beam, start);
-    if early != 0 {
-        return early;
-    }
+    check_limits(n, dim, vectors, degree, beam, start)?;
     if bad_length(n, degree, table.len()) {
-        return 8;
+        return Err(Refusal::Table);
     }
-    lengths_number(n, dim, beam, k, query, words, floats, ids, dists, k)
+    check_lengths(n, dim, beam, k, query, words, floats, ids, dists, k)
 }
 
 // Of fit.
-pub fn fit_number(n: usize, degree: usize, table: &[u32]) -> u32
-    ensures { FitNumbered n degree table.now result }
+pub fn check_fit(n: usize, degree: usize, table: &[u32]) -> Result<(), Refusal>
+    ensures { FitNumbered n degree table.now (number_told result) }
 {
     if bad_count(n) {
-        return 2;
+        return Err(Refusal::Entries);
     }
     if bad_degree(degree) {
-        return 3;
+        return Err(Refusal::Degree);
     }
     if bad_searched(n, degree, table) {
-        return 8;
+        return Err(Refusal::Table);
     }
-    0
+    Ok(())
 }
 
 // Of a batch.
-pub fn batch_number(
+pub fn check_batch(
     n: usize,
     dim: usize,
     vectors: &[u8],
@@ -194,49 +189,46 @@ pub fn batch_number(
     wide: &[u32],
     words: usize,
     floats: usize,
-) -> u32
-    ensures { BatchNumbered n dim vectors.now params start nodes.now seeds.now wide.now words floats result }
+) -> Result<(), Refusal>
+    ensures { BatchNumbered n dim vectors.now params start nodes.now seeds.now wide.now words floats (number_told result) }
 {
-    let early = params_number(n, dim, vectors, params, start);
-    if early != 0 {
-        return early;
-    }
+    check_params(n, dim, vectors, params, start)?;
     if bad_seeds(n, params.extra, start, nodes.len(), seeds) {
-        return 7;
+        return Err(Refusal::Seeds);
     }
     if bad_wide(n, params.degree, wide) {
-        return 8;
+        return Err(Refusal::Table);
     }
     if bad_nodes(n, nodes) {
-        return 9;
+        return Err(Refusal::Nodes);
     }
     if build_short(n, words, floats) {
-        return 10;
+        return Err(Refusal::Room);
     }
-    0
+    Ok(())
 }
 
 // Of open.
-pub fn open_number(n: usize, degree: usize, opening: &[u32], wide: usize) -> u32
-    ensures { OpenNumbered n degree opening.now wide result }
+pub fn check_open(n: usize, degree: usize, opening: &[u32], wide: usize) -> Result<(), Refusal>
+    ensures { OpenNumbered n degree opening.now wide (number_told result) }
 {
     if bad_count(n) {
-        return 2;
+        return Err(Refusal::Entries);
     }
     if bad_degree(degree) {
-        return 3;
+        return Err(Refusal::Degree);
     }
     if bad_table(n, degree, opening) {
-        return 8;
+        return Err(Refusal::Table);
     }
     if bad_wide_length(n, degree, wide) {
-        return 8;
+        return Err(Refusal::Table);
     }
-    0
+    Ok(())
 }
 
 // Of close.
-pub fn close_number(
+pub fn check_close(
     n: usize,
     dim: usize,
     vectors: &[u8],
@@ -245,33 +237,30 @@ pub fn close_number(
     closed: usize,
     words: usize,
     floats: usize,
-) -> u32
-    ensures { CloseNumbered n dim vectors.now params wide.now closed words floats result }
+) -> Result<(), Refusal>
+    ensures { CloseNumbered n dim vectors.now params wide.now closed words floats (number_told result) }
 {
-    let early = entries_number(n, dim, vectors);
-    if early != 0 {
-        return early;
-    }
+    check_entries(n, dim, vectors)?;
     if bad_degree(params.degree) {
-        return 3;
+        return Err(Refusal::Degree);
     }
     if bad_alpha(params.alpha) {
-        return 5;
+        return Err(Refusal::Alpha);
     }
     if bad_wide(n, params.degree, wide) {
-        return 8;
+        return Err(Refusal::Table);
     }
     if bad_length(n, params.degree, closed) {
-        return 8;
+        return Err(Refusal::Table);
     }
     if build_short(n, words, floats) {
-        return 10;
+        return Err(Refusal::Room);
     }
-    0
+    Ok(())
 }
 
 // Of a whole build.
-pub fn build_number(
+pub fn check_build(
     n: usize,
     dim: usize,
     vectors: &[u8],
@@ -284,44 +273,38 @@ pub fn build_number(
     closed: usize,
     words: usize,
     floats: usize,
-) -> u32
-    ensures { BuildNumbered n dim vectors.now params start order.now seeds.now opening.now wide closed words floats result }
+) -> Result<(), Refusal>
+    ensures { BuildNumbered n dim vectors.now params start order.now seeds.now opening.now wide closed words floats (number_told result) }
 {
-    let early = params_number(n, dim, vectors, params, start);
-    if early != 0 {
-        return early;
-    }
+    check_params(n, dim, vectors, params, start)?;
     if bad_seeds(n, params.extra, start, n, seeds) {
-        return 7;
+        return Err(Refusal::Seeds);
     }
     if bad_table(n, params.degree, opening) {
-        return 8;
+        return Err(Refusal::Table);
     }
     if bad_wide_length(n, params.degree, wide) {
-        return 8;
+        return Err(Refusal::Table);
     }
     if bad_length(n, params.degree, closed) {
-        return 8;
+        return Err(Refusal::Table);
     }
     if bad_order(n, order) {
-        return 9;
+        return Err(Refusal::Nodes);
     }
     if build_short(n, words, floats) {
-        return 10;
+        return Err(Refusal::Room);
     }
-    0
+    Ok(())
 }
 
 // Of medoid.
-pub fn medoid_number(n: usize, dim: usize, vectors: &[u8], pivots: &[u32]) -> u32
-    ensures { MedoidNumbered n dim vectors.now pivots.now result }
+pub fn check_medoid(n: usize, dim: usize, vectors: &[u8], pivots: &[u32]) -> Result<(), Refusal>
+    ensures { MedoidNumbered n dim vectors.now pivots.now (number_told result) }
 {
-    let early = entries_number(n, dim, vectors);
-    if early != 0 {
-        return early;
-    }
+    check_entries(n, dim, vectors)?;
     if bad_pivots(n, pivots) {
-        return 12;
+        return Err(Refusal::Pivots);
     }
-    0
+    Ok(())
 }

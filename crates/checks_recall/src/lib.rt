@@ -1,15 +1,16 @@
-// The numbers of an exhaustive search and of a report: that of the first test that holds, in rising order, and 0 for none. All that no test reads is given by
+// The checks of an exhaustive search and of a report, in rising order of their numbers: the first that holds refuses it. All that no test reads is given by
 // its length, the queries too.
 #![tactic(auto)]
 
 ghost use Rattle.std.specs.Prelude.{◌≡◌, ◌≤◌};
+ghost use Rattle.definition.specs.Numbers.{number_told};
 ghost use Rattle.definition.specs.Refusals.{bad_k};
 ghost use Rattle.checks_recall.specs.Lengths.{nearest_short, report_short, wrong_queries};
 ghost use Rattle.checks_recall.specs.ExhaustiveNumber.{ExhaustiveNumbered};
 ghost use Rattle.checks_recall.specs.ReportNumber.{ReportNumbered};
 
 use checks::tables::bad_searched;
-use checks_number::{entries_number, limits_number};
+use checks_number::{check_entries, limits_number};
 use laws::least;
 
 // 14
@@ -58,7 +59,7 @@ fn bad_queries(dim: usize, queries: usize) -> bool
 }
 
 // Of an exhaustive search.
-pub fn exhaustive_number(
+pub fn check_exhaustive(
     n: usize,
     dim: usize,
     vectors: &[u8],
@@ -66,27 +67,24 @@ pub fn exhaustive_number(
     query: usize,
     ids: usize,
     dists: usize,
-) -> u32
-    ensures { ExhaustiveNumbered n dim vectors.now k query ids dists result }
+) -> Result<(), Refusal>
+    ensures { ExhaustiveNumbered n dim vectors.now k query ids dists (number_told result) }
 {
-    let early = entries_number(n, dim, vectors);
-    if early != 0 {
-        return early;
-    }
+    check_entries(n, dim, vectors)?;
     if nearest_short(n, k, ids, dists) {
-        return 10;
+        return Err(Refusal::Room);
     }
     if query != dim {
-        return 11;
+        return Err(Refusal::Query);
     }
     if bad_k(k) {
-        return 14;
+        return Err(Refusal::Nearest);
     }
-    0
+    Ok(())
 }
 
 // Of a report.
-pub fn report_number(
+pub fn check_report(
     n: usize,
     dim: usize,
     vectors: &[u8],
@@ -98,24 +96,21 @@ pub fn report_number(
     queries: usize,
     words: usize,
     floats: usize,
-) -> u32
-    ensures { ReportNumbered n dim vectors.now degree beam k start table.now queries words floats result }
+) -> Result<(), Refusal>
+    ensures { ReportNumbered n dim vectors.now degree beam k start table.now queries words floats (number_told result) }
 {
-    let early = limits_number(n, dim, vectors, degree, beam, start);
-    if early != 0 {
-        return early;
-    }
+    check_limits(n, dim, vectors, degree, beam, start)?;
     if bad_searched(n, degree, table) {
-        return 8;
+        return Err(Refusal::Table);
     }
     if report_short(n, words, floats) {
-        return 10;
+        return Err(Refusal::Room);
     }
     if bad_queries(dim, queries) {
-        return 11;
+        return Err(Refusal::Query);
     }
     if bad_k(k) {
-        return 14;
+        return Err(Refusal::Nearest);
     }
-    0
+    Ok(())
 }

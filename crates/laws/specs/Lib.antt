@@ -12,6 +12,7 @@
 --   All       what holds of every element of a list            Mapped     a list with f of each element
 --   Cleaned   a table as `lookup` reads it                     Descending items that descend, as in a beam
 --   Sums      numbers added up and counted, one more           Sorted     `sort` where equals may stand twice; stretches that it turns
+--   Numbers   the numbers of refusals
 pub mod Truth
 pub mod Members
 pub mod Apart
@@ -38,3 +39,4 @@ pub mod Cleaned
 pub mod Descending
 pub mod Sums
 pub mod Sorted
+pub mod Numbers

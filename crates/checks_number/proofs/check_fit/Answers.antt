@@ -1,11 +1,11 @@
--- `fit_number` meets its contract.
+-- `check_fit` meets its contract.
 use Rattle.std.proofs.Common.{sym, ◌∙◌, arith}
 use Rattle.std.proofs.lemmas.Grind.{common_steps}
 use Rattle.definition.specs.Refusals.{◌when◌else◌}
 use Rattle.accepted.specs.Checks.{count_good, degree_good}
 use Rattle.checks_number.specs.Tests.{number_of}
 use Rattle.checks_number.specs.FitNumber.{fit_numbered}
-use Rattle.checks_number.proofs.fit_number.Goals as goal
+use Rattle.checks_number.proofs.check_fit.Goals as goal
 
 pub bad_searched-requires : goal.bad_searched-requires
 bad_searched-requires c =

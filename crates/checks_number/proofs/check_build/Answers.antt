@@ -1,77 +1,78 @@
--- `build_number` meets its contract.
-use Rattle.std.proofs.Common.{sym, ◌∙◌, arith}
+-- `check_build` meets its contract.
+use Rattle.std.proofs.Common.{sym, arith}
 use Rattle.std.proofs.lemmas.Grind.{common_steps}
+use Rattle.std.proofs.lemmas.Result.{err_from_is_err_and}
 use Rattle.definition.specs.Refusals.{◌when◌else◌}
 use Rattle.accepted.specs.Checks.{vectors_good, degree_good}
-use Rattle.checks_number.specs.Tests.{number_of, holds_at, early}
+use Rattle.checks_number.specs.Tests.{number_of, holds_at, refused_early}
 use Rattle.checks_number.specs.Shared.{params-clear, params_past}
 use Rattle.checks_number.specs.BuildNumbers.{build_numbered}
-use Rattle.checks_number.proofs.build_number.Goals as goal
+use Rattle.checks_number.proofs.check_build.Goals as goal
 
-pub returns-then-early-ne0 : goal.returns-then-early-ne0
-returns-then-early-ne0 c = build_numbered (early _ _ c.params_number-early.ensures c.if-early-ne0.true)
+pub returns-in_err-check_params : goal.returns-in_err-check_params
+returns-in_err-check_params c = let p = err_from_is_err_and c.from_residual.result c.from_residual.ensures.1 in rw (p.1, p.2) (build_numbered (refused_early _ _ _ c.in_err-check_params.ensures))
 
 pub bad_table-requires : goal.bad_table-requires
 unfolding holds_at
 bad_table-requires c =
-    let a = c.args in let clear = params-clear a.n a.dim a.vectors.now a.params a.start (sym c.params_number-early.ensures ∙ c.if-early-ne0.false) in
+    let a = c.args in let clear = params-clear a.n a.dim a.vectors.now a.params a.start (sym c.in_ok-check_params.ensures) in
     ((vectors_good a.n a.dim a.vectors.now (clear 1)).1, (let d = degree_good a.params.degree (clear 2) in omega arith))
 
 pub bad_wide_length-requires : goal.bad_wide_length-requires
 unfolding holds_at
 bad_wide_length-requires c =
-    let a = c.args in let clear = params-clear a.n a.dim a.vectors.now a.params a.start (sym c.params_number-early.ensures ∙ c.if-early-ne0.false) in
+    let a = c.args in let clear = params-clear a.n a.dim a.vectors.now a.params a.start (sym c.in_ok-check_params.ensures) in
     ((vectors_good a.n a.dim a.vectors.now (clear 1)).1, (degree_good a.params.degree (clear 2)).few)
 
 pub bad_length-requires : goal.bad_length-requires
 unfolding holds_at
 bad_length-requires c =
-    let a = c.args in let clear = params-clear a.n a.dim a.vectors.now a.params a.start (sym c.params_number-early.ensures ∙ c.if-early-ne0.false) in
+    let a = c.args in let clear = params-clear a.n a.dim a.vectors.now a.params a.start (sym c.in_ok-check_params.ensures) in
     ((vectors_good a.n a.dim a.vectors.now (clear 1)).1, (let d = degree_good a.params.degree (clear 2) in omega arith))
 
 pub bad_order-requires : goal.bad_order-requires
 unfolding holds_at
 bad_order-requires c =
-    let a = c.args in let clear = params-clear a.n a.dim a.vectors.now a.params a.start (sym c.params_number-early.ensures ∙ c.if-early-ne0.false) in
+    let a = c.args in let clear = params-clear a.n a.dim a.vectors.now a.params a.start (sym c.in_ok-check_params.ensures) in
     (vectors_good a.n a.dim a.vectors.now (clear 1)).1
 
 pub build_short-requires : goal.build_short-requires
 unfolding holds_at
 build_short-requires c =
-    let a = c.args in let clear = params-clear a.n a.dim a.vectors.now a.params a.start (sym c.params_number-early.ensures ∙ c.if-early-ne0.false) in
+    let a = c.args in let clear = params-clear a.n a.dim a.vectors.now a.params a.start (sym c.in_ok-check_params.ensures) in
     (vectors_good a.n a.dim a.vectors.now (clear 1)).1
 
 pub returns-then-bad_seeds : goal.returns-then-bad_seeds
 returns-then-bad_seeds c = let a = c.args in
-    build_numbered (params_past a.n a.dim a.vectors.now a.params a.start _ (sym c.params_number-early.ensures ∙ c.if-early-ne0.false)
+    build_numbered (params_past a.n a.dim a.vectors.now a.params a.start _ (sym c.in_ok-check_params.ensures)
     (unfold number_of in unfold ◌when◌else◌ in grind (arith, common_steps)))
 
 pub returns-then-bad_table : goal.returns-then-bad_table
 returns-then-bad_table c = let a = c.args in
-    build_numbered (params_past a.n a.dim a.vectors.now a.params a.start _ (sym c.params_number-early.ensures ∙ c.if-early-ne0.false)
+    build_numbered (params_past a.n a.dim a.vectors.now a.params a.start _ (sym c.in_ok-check_params.ensures)
     (unfold number_of in unfold ◌when◌else◌ in grind (arith, common_steps)))
 
 pub returns-then-bad_wide_length : goal.returns-then-bad_wide_length
 returns-then-bad_wide_length c = let a = c.args in
-    build_numbered (params_past a.n a.dim a.vectors.now a.params a.start _ (sym c.params_number-early.ensures ∙ c.if-early-ne0.false)
+    build_numbered (params_past a.n a.dim a.vectors.now a.params a.start _ (sym c.in_ok-check_params.ensures)
     (unfold number_of in unfold ◌when◌else◌ in grind (arith, common_steps)))
 
 pub returns-then-bad_length : goal.returns-then-bad_length
 returns-then-bad_length c = let a = c.args in
-    build_numbered (params_past a.n a.dim a.vectors.now a.params a.start _ (sym c.params_number-early.ensures ∙ c.if-early-ne0.false)
+    build_numbered (params_past a.n a.dim a.vectors.now a.params a.start _ (sym c.in_ok-check_params.ensures)
     (unfold number_of in unfold ◌when◌else◌ in grind (arith, common_steps)))
 
 pub returns-then-bad_order : goal.returns-then-bad_order
 returns-then-bad_order c = let a = c.args in
-    build_numbered (params_past a.n a.dim a.vectors.now a.params a.start _ (sym c.params_number-early.ensures ∙ c.if-early-ne0.false)
+    build_numbered (params_past a.n a.dim a.vectors.now a.params a.start _ (sym c.in_ok-check_params.ensures)
     (unfold number_of in unfold ◌when◌else◌ in grind (arith, common_steps)))
 
 pub returns-then-build_short : goal.returns-then-build_short
 returns-then-build_short c = let a = c.args in
-    build_numbered (params_past a.n a.dim a.vectors.now a.params a.start _ (sym c.params_number-early.ensures ∙ c.if-early-ne0.false)
+    build_numbered (params_past a.n a.dim a.vectors.now a.params a.start _ (sym c.in_ok-check_params.ensures)
     (unfold number_of in unfold ◌when◌else◌ in grind (arith, common_steps)))
 
 pub returns : goal.returns
 returns c = let a = c.args in
-    build_numbered (params_past a.n a.dim a.vectors.now a.params a.start _ (sym c.params_number-early.ensures ∙ c.if-early-ne0.false)
+    build_numbered (params_past a.n a.dim a.vectors.now a.params a.start _ (sym c.in_ok-check_params.ensures)
     (unfold number_of in unfold ◌when◌else◌ in grind (arith, common_steps)))

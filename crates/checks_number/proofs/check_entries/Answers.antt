@@ -1,10 +1,10 @@
--- `entries_number` meets its contract.
+-- `check_entries` meets its contract.
 use Rattle.std.proofs.Common.{sym, ◌∙◌, arith}
 use Rattle.std.proofs.lemmas.Grind.{common_steps}
 use Rattle.definition.specs.Refusals.{◌when◌else◌}
 use Rattle.accepted.specs.Checks.{dim_good}
 use Rattle.checks_number.specs.Tests.{number_of}
-use Rattle.checks_number.proofs.entries_number.Goals as goal
+use Rattle.checks_number.proofs.check_entries.Goals as goal
 
 pub bad_vectors-requires : goal.bad_vectors-requires
 bad_vectors-requires c = (dim_good _ (sym c.bad_dim.ensures ∙ c.if-bad_dim.false)).1

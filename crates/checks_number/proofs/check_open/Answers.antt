@@ -1,11 +1,11 @@
--- `open_number` meets its contract.
+-- `check_open` meets its contract.
 use Rattle.std.proofs.Common.{sym, ◌∙◌, arith}
 use Rattle.std.proofs.lemmas.Grind.{common_steps}
 use Rattle.definition.specs.Refusals.{◌when◌else◌}
 use Rattle.accepted.specs.Checks.{count_good, degree_good}
 use Rattle.checks_number.specs.Tests.{number_of}
 use Rattle.checks_number.specs.BuildNumbers.{open_numbered}
-use Rattle.checks_number.proofs.open_number.Goals as goal
+use Rattle.checks_number.proofs.check_open.Goals as goal
 
 pub bad_table-requires : goal.bad_table-requires
 bad_table-requires c = (
