@@ -10,52 +10,42 @@ ghost use Rattle.checks_recall.specs.ExhaustiveNumber.{ExhaustiveNumbered};
 ghost use Rattle.checks_recall.specs.ReportNumber.{ReportNumbered};
 
 use checks::tables::bad_searched;
-use checks_number::{check_entries, limits_number};
-use laws::least;
+use checks_number::{check_entries, check_limits};
+use definition::Refusal;
 
 // 14
+#[tactic(auto, unfolding(definition::specs::Refusals::bad_k))]
 fn bad_k(k: usize) -> bool
     ensures { result ≡ bad_k k }
 {
-    if k == 0 {
-        return true;
-    }
-    256 < k
+    k == 0 || 256 < k
 }
 
 // 10, of an exhaustive search.
+#[tactic(auto, unfolding(crate::specs::Lengths::nearest_short))]
 fn nearest_short(n: usize, k: usize, ids: usize, dists: usize) -> bool
     ensures { result ≡ nearest_short n k ids dists }
 {
-    let most = least(k, n);
-    if ids < most {
-        return true;
-    }
-    dists < most
+    let most = k.min(n);
+    ids < most || dists < most
 }
 
 // 10, of a report.
+#[tactic(auto, unfolding(crate::specs::Lengths::report_short))]
 fn report_short(n: usize, words: usize, floats: usize) -> bool
     requires { n ≤ 65536 }
     ensures { result ≡ report_short n words floats }
 {
-    let w = n + 1024;
-    if words < w {
-        return true;
-    }
-    floats < 1024
+    words < n + 1024 || floats < 1024
 }
 
 // 11, of queries one after another.
+#[tactic(auto, unfolding(crate::specs::Lengths::wrong_queries))]
 fn bad_queries(dim: usize, queries: usize) -> bool
     requires { 1 ≤ dim }
     ensures { result ≡ wrong_queries dim queries }
 {
-    let left = queries % dim;
-    if left != 0 {
-        return true;
-    }
-    65535 < queries / dim
+    queries % dim != 0 || 65535 < queries / dim
 }
 
 // Of an exhaustive search.
