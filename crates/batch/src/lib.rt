@@ -65,7 +65,7 @@ pub fn batch(
         })
         (record { answer = result; wide = wide.new; words = words.new; floats = floats.new }) }
 {
-    let number = checks_number::batch_number(
+    if let Err(refusal) = checks_number::check_batch(
         n,
         dim,
         vectors,
@@ -76,9 +76,8 @@ pub fn batch(
         wide,
         words.len(),
         floats.len(),
-    );
-    if number != 0 {
-        return answers::refused(number);
+    ) {
+        return answers::refused(refusal);
     }
     let slack = table::slack(params.degree);
     let g = Ground {

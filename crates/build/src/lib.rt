@@ -17,9 +17,8 @@ pub fn open(n: usize, degree: usize, opening: &[u32], wide: &mut [u32]) -> Answe
         (record { n = n; degree = degree; opening = opening.now; wide = wide.old })
         (record { answer = result; wide = wide.new }) }
 {
-    let number = checks_number::open_number(n, degree, opening, wide.len());
-    if number != 0 {
-        return answers::refused(number);
+    if let Err(refusal) = checks_number::check_open(n, degree, opening, wide.len()) {
+        return answers::refused(refusal);
     }
     let slack = table::slack(degree);
     build_rows::open_rows(n, degree, slack, opening, wide);
@@ -50,7 +49,7 @@ pub fn close(
         })
         (record { answer = result; closed = closed.new; words = words.new; floats = floats.new }) }
 {
-    let number = checks_number::close_number(
+    if let Err(refusal) = checks_number::check_close(
         n,
         dim,
         vectors,
@@ -59,9 +58,8 @@ pub fn close(
         closed.len(),
         words.len(),
         floats.len(),
-    );
-    if number != 0 {
-        return answers::refused(number);
+    ) {
+        return answers::refused(refusal);
     }
     let width = table::slack(params.degree);
     let g = Ground {
@@ -157,7 +155,7 @@ pub fn build(
         })
         (record { answer = result; wide = wide.new; closed = closed.new; words = words.new; floats = floats.new }) }
 {
-    let number = checks_number::build_number(
+    if let Err(refusal) = checks_number::check_build(
         n,
         dim,
         vectors,
@@ -170,9 +168,8 @@ pub fn build(
         closed.len(),
         words.len(),
         floats.len(),
-    );
-    if number != 0 {
-        return answers::refused(number);
+    ) {
+        return answers::refused(refusal);
     }
     let slack = table::slack(params.degree);
     build_rows::open_rows(n, params.degree, slack, opening, wide);

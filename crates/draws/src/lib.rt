@@ -3,11 +3,12 @@
 #![tactic(auto)]
 
 ghost use Rattle.std.specs.Prelude.{◌≡◌};
+ghost use Rattle.definition.specs.Numbers.{number};
 ghost use Rattle.definition.specs.Outcome.{refused, done};
 ghost use Rattle.draws.specs.Says.{stepped, DrawSays, RowsSays, SeedsSays, OrderSays, PivotsSays};
 
 use checks::limits::{bad_count, bad_degree, bad_extra, bad_length, bad_start};
-use definition::Answer;
+use definition::{Answer, Refusal};
 
 mod numbers; // a remainder by comparison
 mod order;
@@ -25,10 +26,10 @@ pub struct Stepped {
 }
 
 // A refused call: the generator does not advance.
-fn kept(state: u64, number: u32) -> Stepped
-    ensures { result ≡ stepped state (refused number) }
+fn kept(state: u64, refusal: Refusal) -> Stepped
+    ensures { result ≡ stepped state (refused (number refusal)) }
 {
-    let answer = answers::refused(number);
+    let answer = answers::refused(refusal);
     Stepped { state, answer }
 }
 
@@ -57,13 +58,13 @@ pub fn rows_drawn(state: u64, n: usize, degree: usize, table: &mut [u32]) -> Ste
     ensures { RowsSays state n degree table.old result table.new }
 {
     if bad_count(n) {
-        return kept(state, 2);
+        return kept(state, Refusal::Entries);
     }
     if bad_degree(degree) {
-        return kept(state, 3);
+        return kept(state, Refusal::Degree);
     }
     if bad_length(n, degree, table.len()) {
-        return kept(state, 8);
+        return kept(state, Refusal::Table);
     }
     if n == 1 {
         table::pad_from(table, 0);
@@ -78,16 +79,16 @@ pub fn seeds_drawn(state: u64, n: usize, start: u32, extra: usize, out: &mut [u3
     ensures { SeedsSays state n start extra out.old result out.new }
 {
     if bad_count(n) {
-        return kept(state, 2);
+        return kept(state, Refusal::Entries);
     }
     if bad_start(n, start) {
-        return kept(state, 6);
+        return kept(state, Refusal::Start);
     }
     if bad_extra(n, extra) {
-        return kept(state, 7);
+        return kept(state, Refusal::Seeds);
     }
     if out.len() < extra {
-        return kept(state, 10);
+        return kept(state, Refusal::Room);
     }
     let next = seeds::fill_seeds(state, n as u32, start, extra, out);
     filled(next)
@@ -98,10 +99,10 @@ pub fn order_drawn(state: u64, n: usize, out: &mut [u32]) -> Stepped
     ensures { OrderSays state n out.old result out.new }
 {
     if bad_count(n) {
-        return kept(state, 2);
+        return kept(state, Refusal::Entries);
     }
     if out.len() < n {
-        return kept(state, 10);
+        return kept(state, Refusal::Room);
     }
     order::count_up(&mut out[0..n]);
     let next = order::shuffle(state, &mut out[0..n]);
@@ -113,11 +114,11 @@ pub fn pivots_drawn(state: u64, n: usize, out: &mut [u32]) -> Stepped
     ensures { PivotsSays state n out.old result out.new }
 {
     if bad_count(n) {
-        return kept(state, 2);
+        return kept(state, Refusal::Entries);
     }
     let many = laws::least(8, n);
     if out.len() < many {
-        return kept(state, 10);
+        return kept(state, Refusal::Room);
     }
     let next = pivots::fill_draws(state, n as u32, many, out);
     filled(next)

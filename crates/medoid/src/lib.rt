@@ -46,9 +46,8 @@ fn leader(n: usize, dim: usize, vectors: &[u8], pivots: &[u32]) -> usize
 pub fn medoid(n: usize, dim: usize, vectors: &[u8], pivots: &[u32]) -> Answer
     ensures { result ≡ medoid_out (record { n = n; dim = dim; vectors = vectors.now; pivots = pivots.now }) }
 {
-    let number = checks_number::medoid_number(n, dim, vectors, pivots);
-    if number != 0 {
-        return answers::refused(number);
+    if let Err(refusal) = checks_number::check_medoid(n, dim, vectors, pivots) {
+        return answers::refused(refusal);
     }
     let id = leader(n, dim, vectors, pivots);
     answers::chosen(id as u32)

@@ -9,7 +9,7 @@ ghost use Rattle.whole.specs.Whole.{farthest};
 ghost use Rattle.metric.specs.Exact.{Exact, VectorIn, Distances};
 ghost use Rattle.metric.specs.Stretches.{Stretch, Adds, Sixteen};
 
-use definition::Answer;
+use definition::{Answer, Refusal};
 
 fn higher(x: u8, y: u8) -> u8
     ensures { result ≡ max x y }
@@ -174,14 +174,11 @@ pub fn distance(a: &[u8], b: &[u8]) -> Answer
     ensures { result ≡ distance_out (record { first = a.now; second = b.now }) }
 {
     let dim = a.len();
-    if dim == 0 {
-        return answers::refused(1);
-    }
-    if 256 < dim {
-        return answers::refused(1);
+    if dim == 0 || 256 < dim {
+        return answers::refused(Refusal::Dimension);
     }
     if dim != b.len() {
-        return answers::refused(11);
+        return answers::refused(Refusal::Query);
     }
     answers::measured(summed(a, b) as f32)
 }

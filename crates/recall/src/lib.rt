@@ -228,7 +228,7 @@ pub fn report(
         })
         (record { report = result; words = words.new; floats = floats.new }) }
 {
-    let number = checks_recall::report_number(
+    if let Err(refusal) = checks_recall::check_report(
         n,
         dim,
         vectors,
@@ -240,9 +240,8 @@ pub fn report(
         queries.len(),
         words.len(),
         floats.len(),
-    );
-    if number != 0 {
-        return answers::refused_report(number);
+    ) {
+        return answers::refused_report(refusal);
     }
     let a = Asked {
         n,

@@ -184,7 +184,7 @@ pub fn search(
         })
         (record { answer = result; words = words.new; floats = floats.new; ids = ids.new; dists = dists.new }) }
 {
-    let number = checks_number::search_number(
+    if let Err(refusal) = checks_number::check_search(
         n,
         dim,
         vectors,
@@ -199,9 +199,8 @@ pub fn search(
         ids.len(),
         dists.len(),
         k,
-    );
-    if number != 0 {
-        return answers::refused(number);
+    ) {
+        return answers::refused(refusal);
     }
     search_accepted(
         n, dim, vectors, degree, beam, k, start, table, query, words, floats, ids, dists,
@@ -243,7 +242,7 @@ pub fn lookup(
         })
         (record { answer = result; words = words.new; floats = floats.new; ids = ids.new; dists = dists.new }) }
 {
-    let refusal = checks_number::lookup_number(
+    if let Err(refusal) = checks_number::check_lookup(
         n,
         dim,
         vectors,
@@ -257,8 +256,7 @@ pub fn lookup(
         floats.len(),
         ids.len(),
         dists.len(),
-    );
-    if refusal != 0 {
+    ) {
         return answers::refused(refusal);
     }
     let found = lookup_accepted(
@@ -271,6 +269,8 @@ pub fn lookup(
 pub fn fit(n: usize, degree: usize, table: &[u32]) -> Answer
     ensures { result ≡ fit_out (record { n = n; degree = degree; table = table.now }) }
 {
-    let number = checks_number::fit_number(n, degree, table);
-    answers::refused(number)
+    if let Err(refusal) = checks_number::check_fit(n, degree, table) {
+        return answers::refused(refusal);
+    }
+    answers::done()
 }

@@ -46,7 +46,7 @@ pub fn search_records(
         records.old
         (record { plain = record { answer = result; words = words.new; floats = floats.new; ids = ids.new; dists = dists.new }; records = records.new }) }
 {
-    let number = checks_number::search_number(
+    if let Err(refusal) = checks_number::check_search(
         n,
         dim,
         vectors,
@@ -61,9 +61,8 @@ pub fn search_records(
         ids.len(),
         dists.len(),
         records.len(),
-    );
-    if number != 0 {
-        return answers::refused(number);
+    ) {
+        return answers::refused(refusal);
     }
     let a = search::search_accepted(
         n, dim, vectors, degree, beam, k, start, table, query, words, floats, ids, dists,

@@ -2,21 +2,19 @@
 use Rattle.std.proofs.Common.{ℕ, sym, ap, ◌∙◌}
 use Rattle.definition.specs.Metric.{whole}
 use Rattle.definition.specs.Outcome.{answer}
-use Rattle.metric.specs.Laws.{exact_in_float}
 use Rattle.metric.specs.Cases.{distance_none, distance_long, distance_unequal, distance_done}
 use Rattle.metric.proofs.distance.Goals as goal
+use Rattle.metric.proofs.distance.Goals.{then-dim-eq0-via-then-dim-eq0, then-dim-eq0-via-else-dim-eq0+then-dim-gt256}
 
 pub returns-then-dim-eq0 : goal.returns-then-dim-eq0
-returns-then-dim-eq0 c = c.refused.ensures ∙ sym (distance_none _ _ c.if-dim-eq0.true)
-
-pub returns-then-dim-gt256 : goal.returns-then-dim-gt256
-returns-then-dim-gt256 c = c.refused-then-dim-gt256.ensures ∙ sym (distance_long _ _ c.if-dim-gt256.true)
+returns-then-dim-eq0 c =
+    elim c.then-dim-eq0.branch [
+      | then-dim-eq0-via-then-dim-eq0 w ↦ c.refused.ensures ∙ sym (distance_none _ _ w.if-dim-eq0.true)
+      | then-dim-eq0-via-else-dim-eq0+then-dim-gt256 w ↦ c.refused.ensures ∙ sym (distance_long _ _ w.if-dim-gt256.true)
+    ]
 
 pub returns-then-dim-b : goal.returns-then-dim-b
 returns-then-dim-b c = c.refused-then-dim-b.ensures ∙ sym (distance_unequal _ _ c.if-dim-eq0.false c.if-dim-gt256.false c.if-dim-b.true)
-
-pub int_to_float-summed : goal.int_to_float-summed
-int_to_float-summed c = exact_in_float _ _ c.summed.ensures
 
 pub returns : goal.returns
 unfolding whole
