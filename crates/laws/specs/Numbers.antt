@@ -1,5 +1,5 @@
 -- Every reason for a refusal has a number, and 0 is none.
-use Rattle.std.specs.Prelude.{ℕ, ◌<◌}
+use Rattle.std.specs.Prelude.{◌≡◌, ℕ, ◌<◌}
 use Rattle.std.proofs.Common.{arith}
 use Rattle.definition.specs.declared.Refusal.{Refusal}
 use Rattle.definition.specs.declared.Refusal.TheVariants.{Dimension, Entries, Degree, Beam, Alpha, Start, Seeds, Table, Nodes, Room, Query, Pivots, Text, Nearest}
@@ -20,3 +20,6 @@ number_positive Query = omega arith
 number_positive Pivots = omega arith
 number_positive Text = omega arith
 number_positive Nearest = omega arith
+
+pub number_nonzero : (refusal : Refusal) → number refusal ≡ 0 → ⊥
+number_nonzero refusal e = let some = number_positive refusal in omega arith

@@ -269,8 +269,5 @@ pub fn lookup(
 pub fn fit(n: usize, degree: usize, table: &[u32]) -> Answer
     ensures { result ≡ fit_out (record { n = n; degree = degree; table = table.now }) }
 {
-    if let Err(refusal) = checks_number::check_fit(n, degree, table) {
-        return answers::refused(refusal);
-    }
-    answers::done()
+    answers::checked(checks_number::check_fit(n, degree, table))
 }

@@ -5,4 +5,4 @@ use Rattle.search.proofs.fit.Goals as goal
 
 pub returns : goal.returns
 unfolding fit_out
-returns c = c.refused.ensures ∙ ap refused c.fit_number-number.ensures.is
+returns c = c.checked.ensures ∙ ap refused c.check_fit.ensures.is

@@ -1,4 +1,6 @@
 -- `search_records`. It is refused by its number, and everything is as it came; or it is accepted, and the answers that the search left are copied to the run.
+use Rattle.std.proofs.Common.{refl}
+use Rattle.laws.specs.Numbers.{number_nonzero}
 use Rattle.definition.specs.Refusals.{SearchCall}
 use Rattle.checks_number.specs.SearchNumber.{call_of}
 use Rattle.definition.specs.Outcome.{SearchOut}
@@ -14,15 +16,15 @@ asked s =
     call_of a.n a.dim a.vectors.now a.degree a.beam a.k a.start a.table.now a.query.now
     a.words.now a.floats.now a.ids.now a.dists.now
 
-pub returns-then-number-ne0 : goal.returns-then-number-ne0
-returns-then-number-ne0 c =
-    let s = (goal.at.returns-then-number-ne0 c).Start in
-    records_refused (asked s) s.args.records.now _ c.search_number-number.ensures c.if-number-ne0.true _ c.refused.ensures
+pub returns-in-Err : goal.returns-in-Err
+returns-in-Err c =
+    let s = (goal.at.returns-in-Err c).Start in
+    records_refused (asked s) s.args.records.now _ c.in-Err.ensures (number_nonzero c.in-Err.refusal) _ c.refused.ensures
 
 pub search_accepted-a-requires : goal.search_accepted-a-requires
 search_accepted-a-requires c =
     let s = (goal.at.search_accepted-a-requires c).Start in
-    (beside-accepted (asked s) _ _ c.search_number-number.ensures c.if-number-ne0.false).0
+    (beside-accepted (asked s) _ _ c.in_default.ensures refl).0
 
 -- what the search left
 abbrev left : After-search_accepted-a → SearchOut
@@ -33,11 +35,11 @@ left c =
 pub copy_run-requires : goal.copy_run-requires
 copy_run-requires c =
     let p = goal.at.copy_run-requires c in
-    in_all (asked p.Start) p.Start.args.records.now _ c.search_number-number.ensures c.if-number-ne0.false (left p.After-search_accepted-a)
+    in_all (asked p.Start) p.Start.args.records.now _ c.in_default.ensures refl (left p.After-search_accepted-a)
     c.search_accepted-a.ensures
 
 pub returns : goal.returns
 returns c =
     let p = goal.at.returns c in
-    records_done_lem (asked p.Start) p.Start.args.records.now _ c.search_number-number.ensures c.if-number-ne0.false (left p.After-search_accepted-a)
+    records_done_lem (asked p.Start) p.Start.args.records.now _ c.in_default.ensures refl (left p.After-search_accepted-a)
     c.search_accepted-a.ensures _ c.copy_run.ensures
