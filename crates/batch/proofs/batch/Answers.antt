@@ -1,5 +1,5 @@
 -- `batch` meets its contract: the number, the run, the room.
-use mathlib.Core.Path.{refl, sym, ◌∙◌}
+use mathlib.Core.Path.{refl, sym}
 use Rattle.laws.specs.Numbers.{number_nonzero}
 use Rattle.batch.specs.Batched.{batch_degree, batch_marks, batch_ready, batch_room, batch-done, batch-refused}
 use Rattle.batch.proofs.batch.Goals as goal

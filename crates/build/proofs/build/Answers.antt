@@ -1,5 +1,5 @@
 -- `build` meets its contract: the number, open, the runs, close, the room.
-use mathlib.Core.Path.{refl, sym, ◌∙◌}
+use mathlib.Core.Path.{refl, sym}
 use Rattle.laws.specs.Numbers.{number_nonzero}
 use native.Mathlib.Omega.{arith}
 use Rattle.build.specs.Built.{build_degree, build_opens, build_runs, floats_left, build_closes, build_room, build_done_lem, build_refused}

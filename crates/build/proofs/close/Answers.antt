@@ -1,5 +1,5 @@
 -- `close` meets its contract: the number, the rows, the room.
-use mathlib.Core.Path.{refl, sym, ◌∙◌}
+use mathlib.Core.Path.{refl, sym}
 use Rattle.laws.specs.Numbers.{number_nonzero}
 use native.Mathlib.Omega.{arith}
 use Rattle.build.specs.Closed.{close_degree, close_room, close_ready, close-refused, close_done_lem}

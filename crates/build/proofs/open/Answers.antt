@@ -1,5 +1,5 @@
 -- `open` meets its contract: the number, the rows.
-use mathlib.Core.Path.{refl, sym, ◌∙◌}
+use mathlib.Core.Path.{refl, sym}
 use Rattle.laws.specs.Numbers.{number_nonzero}
 use Rattle.accepted.specs.Build.{open_accepted}
 use Rattle.build.specs.Opened.{open_ready, open_refused, open_done_lem}
