@@ -137,22 +137,14 @@ pub fn floats_end(n: usize) -> usize
 pub fn clear_words(s: &mut [u32])
     ensures { s.new ≡ replicate (length s.old) 0 }
 {
-    let mut i = 0;
-    while i < s.len() {
-        s[i] = 0;
-        i += 1;
-    }
+    s.fill(0);
 }
 
 // Every float becomes +0.0.
 pub fn clear_floats(s: &mut [f32])
     ensures { s.new ≡ replicate (length s.old) (of_bits binary32 0) }
 {
-    let mut i = 0;
-    while i < s.len() {
-        s[i] = 0.0;
-        i += 1;
-    }
+    s.fill(0.0);
 }
 
 // The first w words and the first f floats become 0; what lies beyond is untouched.
