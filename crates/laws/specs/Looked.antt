@@ -12,9 +12,13 @@ pub record Looked (p : ℕ → Bool) (l : List ℕ) (i : ℕ) (found : Bool) : T
 pub look-start : (p : ℕ → Bool) (l : List ℕ) → Looked p l 0 false
 look-start p l = record { upto = omega arith; same = refl }
 
-pub look_more : (p : ℕ → Bool) (l : List ℕ) (i : ℕ) (found : Bool) → Looked p l i found → i < length l → Looked p l (i + 1) (found || not (p (get_or l i 0)))
-look_more p l i found w h =
-    record { upto = omega arith; same = one (p (get_or l i 0)) found (each p (drop (i + 1) l)) ∙ ap (λ (t : Bool). found || not t) (sym (each_step p l i h)) ∙ w.same }
+pub look_more : (p : ℕ → Bool) (l : List ℕ) (i : ℕ) (found fails : Bool) → Looked p l i found → i < length l → fails ≡ not (p (get_or l i 0))
+    → Looked p l (i + 1) (found || fails)
+look_more p l i found fails w h e =
+    record {
+      upto = omega arith;
+      same = rw e (one (p (get_or l i 0)) found (each p (drop (i + 1) l))) ∙ ap (λ (t : Bool). found || not t) (sym (each_step p l i h)) ∙ w.same;
+    }
   where
     one : (t f rest : Bool) → ((f || not t) || not rest) ≡ (f || not (t && rest))
     one t true rest = refl
