@@ -62,14 +62,11 @@ fn bad_groups(n: usize, start: u32, extra: usize, count: usize, seeds: &[u32]) -
     requires { length seeds.now ≡ count * extra }
     ensures { result ≡ not (each (good_group n start) (groups count extra seeds.now)) }
 {
-    let mut g = 0;
-    while g < count {
-        let a = g * extra;
-        let e = a + extra;
-        if bad_group(n, start, &seeds[a..e]) {
+    for g in 0..count {
+        let at = g * extra;
+        if bad_group(n, start, &seeds[at..at + extra]) {
             return true;
         }
-        g += 1;
     }
     false
 }
@@ -81,15 +78,9 @@ pub fn bad_seeds(n: usize, extra: usize, start: u32, count: usize, seeds: &[u32]
     if bad_extra(n, extra) {
         return true;
     }
-    let all = seeds.len();
     if extra == 0 {
-        return all != 0;
+        return !seeds.is_empty();
     }
-    if all % extra != 0 {
-        return true;
-    }
-    if all / extra != count {
-        return true;
-    }
-    bad_groups(n, start, extra, count, seeds)
+    let all = seeds.len();
+    all % extra != 0 || all / extra != count || bad_groups(n, start, extra, count, seeds)
 }

@@ -9,9 +9,6 @@ pub record Looked (p : ℕ → Bool) (l : List ℕ) (i : ℕ) (found : Bool) : T
   pub upto : i ≤ length l
   pub same : (found || not (each p (drop i l))) ≡ not (each p l)
 
-pub look-start : (p : ℕ → Bool) (l : List ℕ) → Looked p l 0 false
-look-start p l = record { upto = omega arith; same = refl }
-
 pub look_more : (p : ℕ → Bool) (l : List ℕ) (i : ℕ) (found fails : Bool) → Looked p l i found → i < length l → fails ≡ not (p (get_or l i 0))
     → Looked p l (i + 1) (found || fails)
 look_more p l i found fails w h e =
