@@ -57,20 +57,6 @@ pub fn bad_group(n: usize, start: u32, group: &[u32]) -> bool
     false
 }
 
-// Whether one of the groups is bad; there are `count` of `extra` seeds each.
-fn bad_groups(n: usize, start: u32, extra: usize, count: usize, seeds: &[u32]) -> bool
-    requires { length seeds.now ≡ count * extra }
-    ensures { result ≡ not (each (good_group n start) (groups count extra seeds.now)) }
-{
-    for g in 0..count {
-        let at = g * extra;
-        if bad_group(n, start, &seeds[at..at + extra]) {
-            return true;
-        }
-    }
-    false
-}
-
 // 7. The length is compared by a division: the product of count and extra may be too large.
 pub fn bad_seeds(n: usize, extra: usize, start: u32, count: usize, seeds: &[u32]) -> bool
     ensures { result ≡ bad_seeds n extra start count seeds.now }
@@ -82,5 +68,6 @@ pub fn bad_seeds(n: usize, extra: usize, start: u32, count: usize, seeds: &[u32]
         return !seeds.is_empty();
     }
     let all = seeds.len();
-    all % extra != 0 || all / extra != count || bad_groups(n, start, extra, count, seeds)
+    let mut groups = seeds.chunks_exact(extra);
+    all % extra != 0 || all / extra != count || groups.any(|group| bad_group(n, start, group))
 }

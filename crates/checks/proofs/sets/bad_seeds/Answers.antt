@@ -1,7 +1,10 @@
 -- `bad_seeds` meets its contract.
-use Rattle.std.proofs.Common.{length, not, sym, ap, ◌∙◌, arith}
+use Rattle.std.proofs.Common.{◌≡◌, ◌/◌, ℕ, rules, length, not, sym, ap, ◌∙◌, arith}
 use Rattle.std.proofs.lemmas.Bool.{not-true, eqb-false}
 use Rattle.std.proofs.lemmas.Bool.Decides.{nat_tests}
+use Rattle.definition.specs.Lists.{each, groups}
+use Rattle.definition.specs.Refusals.{good_group}
+use Rattle.checks.proofs.Chunks.{any_chunk}
 use Rattle.checks.specs.Groups.{seeds_limit, seeds_none, seeds_wrong, seeds_right, whole-groups, as_many, right_many}
 use Rattle.checks.proofs.sets.bad_seeds.Goals as goal
 use Rattle.checks.proofs.sets.bad_seeds.Goals.{then-all-extra-ne0, else-all-extra-ne0}
@@ -25,6 +28,9 @@ returns-then-all-extra c =
 pub returns-else-all-extra : goal.returns-else-all-extra
 returns-else-all-extra c =
     let a = c.args in
-    c.bad_groups.ensures
+    let run = c.any.ensures.runs in
+    let count : length a.seeds.now / a.extra ≡ a.count = grind (arith, nat_tests) in
+    any_chunk run.0 a.extra a.seeds.now _ _ (good_group a.n a.start) (omega arith) (search rules) (search rules) (search rules) c.any.result run.2
+    ∙ ap (λ (k : ℕ). not (each (good_group a.n a.start) (groups k a.extra a.seeds.now))) count
     ∙ seeds_right a.n a.extra a.start a.count a.seeds.now (sym c.bad_extra.ensures ∙ c.if-bad_extra.false)
-    (right_many (length a.seeds.now) a.extra a.count (grind (arith, nat_tests)) (grind (arith, nat_tests)))
+    (right_many (length a.seeds.now) a.extra a.count (grind (arith, nat_tests)) count)
