@@ -2,5 +2,5 @@
 use Rattle.draws.specs.Pivots.{Drawing}
 use Rattle.draws.proofs.pivots.fill_draws.Given as goal
 
-abbrev pub invariant-loop-i : goal.invariant-loop-i
-invariant-loop-i l = Drawing l.n l.many l.state l.initial.out l.out l.i l.s
+abbrev pub invariant-loop-word : goal.invariant-loop-word
+invariant-loop-word l = Drawing l.n l.many l.state l.initial.word-items l.word-items l.word-index l.s
