@@ -152,8 +152,8 @@ pub fn clear_front(words: &mut [u32], floats: &mut [f32], w: usize, f: usize)
     requires { (w ≤ length words.old) × (f ≤ length floats.old) }
     ensures { FrontClear w f words.old floats.old words.new floats.new }
 {
-    clear_words(&mut words[0..w]);
-    clear_floats(&mut floats[0..f]);
+    clear_words(&mut words[..w]);
+    clear_floats(&mut floats[..f]);
 }
 
 // The room of a batch, close or whole build becomes 0.
