@@ -67,8 +67,7 @@ pub fn put_row(table: &mut [u32], place: usize, width: usize, ids: &[u32])
     ensures { Stretched table.old table.new place width (length ids.now) ids.now }
 {
     let at = place * width;
-    let end = at + width;
-    write_padded(&mut table[at..end], ids);
+    write_padded(&mut table[at..at + width], ids);
 }
 
 // The ids of a row, in their order, to the front of `out`: how many there are.
