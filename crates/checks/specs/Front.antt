@@ -20,9 +20,6 @@ pub record Counted (n : ℕ) (words : List ℕ) (i count : ℕ) : Type 0 where
   pub few : count ≤ i
   pub same : count + length (entries n (drop i words)) ≡ length (entries n words)
 
-pub count-start : (n : ℕ) (words : List ℕ) → Counted n words 0 0
-count-start n words = record { upto = omega arith; few = omega arith; same = omega arith }
-
 module _ (n : ℕ) (words : List ℕ) (i count : ℕ) (w : Counted n words i count) (h : i < length words) where
   count_step : (t : Bool) → nat_lt (slice_index words i) n ≡ t
       → length (entries n (drop i words)) ≡ length (cond t (slice_index words i ∷ entries n (drop (i + 1) words)) (entries n (drop (i + 1) words)))

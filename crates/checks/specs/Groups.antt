@@ -1,5 +1,5 @@
--- The groups of seeds: one group seed by seed, the groups one by one, and their number by a division.
-use Rattle.std.specs.Prelude.{◌≡◌, ℕ, zero, suc, ◌+◌, ◌-◌, ◌*◌, ◌/◌, ◌%◌, ◌<◌, ◌≤◌, Bool, true, false, not, ◌&&◌, ◌||◌, List, [], ◌∷◌, length, take}
+-- The groups of seeds: one group seed by seed, and their number by a division.
+use Rattle.std.specs.Prelude.{◌≡◌, ℕ, zero, suc, ◌+◌, ◌*◌, ◌/◌, ◌%◌, ◌<◌, ◌≤◌, Bool, true, false, not, ◌&&◌, ◌||◌, List, [], ◌∷◌, length}
 use Rattle.std.specs.Prelude.{drop, ◌==◌, ◌≢◌, nat_eq, nat_lt, slice_index, slice_index_or}
 use Rattle.std.proofs.Math.Path.{refl, sym, ap}
 use Rattle.std.proofs.Common.{◌∙◌, div-add-mod', mul-div_cancel, drop_of_length-le, drop-cons}
@@ -7,11 +7,9 @@ use Rattle.std.proofs.Math.Bool.{and-false}
 use Rattle.std.proofs.Math.Numerals.{add-one}
 use Rattle.std.proofs.Math.Nat.{mul-zero, mul-mod_left}
 use native.Mathlib.Omega.{arith}
-use borrow.Author.Tests.{lt-ltb, le-ltb, eq-eqb, ne_eqb, not-true, not-false}
-use Rattle.std.proofs.Math.Seq.{drop-drop}
+use borrow.Author.Tests.{lt-ltb, le-ltb, eq-eqb, ne_eqb}
 use Rattle.definition.specs.Lists.{each, is_in, distinct, groups}
 use Rattle.definition.specs.Refusals.{bad_extra, good_group, bad_seeds}
-use Rattle.checks.specs.Lent.{part_is}
 
 -- ---- one group, from seed i on
 module _ (n start : ℕ) (group : List ℕ) (i : ℕ)
@@ -53,52 +51,6 @@ pub seeds_end : (n start : ℕ) (group : List ℕ) (i : ℕ) → good_group n st
     → false ≡ not (good_group n start group)
 unfolding good_group each distinct
 seeds_end n start group i same h = let ended : good_group n start (drop i group) ≡ true = rw (drop_of_length-le group h) refl in ap not (sym ended ∙ same)
-
--- ---- the groups, from group g on
-pub record Grouped (n start extra count : ℕ) (seeds : List ℕ) (g : ℕ) : Type 0 where
-  pub upto : g ≤ count
-  pub same : each (good_group n start) (groups (count - g) extra (drop (g * extra) seeds)) ≡ each (good_group n start) (groups count extra seeds)
-
-module _ (n start extra count : ℕ) (seeds : List ℕ) where
-  pub groups_start : Grouped n start extra count seeds 0
-  groups_start =
-      let z : 0 * extra ≡ 0 = omega arith in
-      let y : count - 0 ≡ count = omega arith in
-      record { upto = omega arith; same = rw (z, y) refl }
-
-  module _ (g : ℕ) (w : Grouped n start extra count seeds g) where
-    groups_step : g < count → each (good_group n start) (groups (count - g) extra (drop (g * extra) seeds))
-        ≡ (good_group n start (take extra (drop (g * extra) seeds))
-        && each (good_group n start) (groups (count - (g + 1)) extra (drop ((g + 1) * extra) seeds)))
-    unfolding each groups
-    groups_step h =
-        let k : count - g ≡ suc (count - (g + 1)) = omega arith in
-        let a : g * extra + extra ≡ (g + 1) * extra = omega arith in
-        rw (k, ← a, ← drop-drop extra (g * extra) seeds) refl
-
-    module _ (h : g < count) (r : Bool) (t : r ≡ not (good_group n start (take (g * extra + extra - g * extra) (drop (g * extra) seeds)))) where
-      tested : not (good_group n start (take extra (drop (g * extra) seeds))) ≡ r
-      tested = sym (t ∙ ap (λ (l : List ℕ). not (good_group n start l)) (part_is extra (g * extra) seeds))
-
-      pub group_bad : r ≡ true → true ≡ not (each (good_group n start) (groups count extra seeds))
-      group_bad e =
-          let bad : good_group n start (take extra (drop (g * extra) seeds)) ≡ false = not-true _ (tested ∙ e) in
-          let broken : each (good_group n start) (groups (count - g) extra (drop (g * extra) seeds)) ≡ false = groups_step h ∙ rw bad refl in
-          ap not (sym broken ∙ w.same)
-
-      pub group_good : r ≡ false → Grouped n start extra count seeds (g + 1)
-      group_good e =
-          let good : good_group n start (take extra (drop (g * extra) seeds)) ≡ true = not-false _ (tested ∙ e) in
-          let kept : each (good_group n start) (groups (count - g) extra (drop (g * extra) seeds))
-          ≡ each (good_group n start) (groups (count - (g + 1)) extra (drop ((g + 1) * extra) seeds)) = groups_step h ∙ rw good refl in
-          record { upto = omega arith; same = sym kept ∙ w.same }
-
-    pub groups_end : count ≤ g → false ≡ not (each (good_group n start) (groups count extra seeds))
-    unfolding each groups
-    groups_end h =
-        let z : count - g ≡ 0 = omega arith in
-        let ended : each (good_group n start) (groups (count - g) extra (drop (g * extra) seeds)) ≡ true = rw z refl in
-        ap not (sym ended ∙ w.same)
 
 -- ---- how many seeds there are
 no_seeds : (n start count : ℕ) → each (good_group n start) (groups count 0 []) ≡ true

@@ -11,7 +11,7 @@ use Rattle.definition.specs.Lists.{each, keep, run, upto, is_in, distinct}
 use Rattle.definition.specs.Tables.{pad, row, ids, only_pad, ids_first, build_row, build_rule, search_rule}
 use Rattle.definition.specs.Refusals.{bad_length, bad_table}
 use Rattle.laws.specs.Tables.{row_fits, ids_split}
-use Rattle.laws.specs.Parts.{part_length, part-front}
+use Rattle.laws.specs.Parts.{part_length}
 use Rattle.laws.specs.Truth.{and_both}
 use Rattle.checks.specs.Lengths.{wrong_length}
 use Rattle.checks.specs.Lent.{part_is, rest_is}
@@ -81,13 +81,12 @@ module _ (n own : ℕ) (words : List ℕ) where
         go false q h = row_mixed q
 
     -- they are the ids of the row
-    pub row_end : only_pad (take (length words - count) (drop count words)) ≡ true → (r : Bool) → r ≡ not (apart (own ∷ []) (take (count - 0) words))
+    pub row_end : only_pad (take (length words - count) (drop count words)) ≡ true → (r : Bool) → r ≡ not (apart (own ∷ []) (take count words))
         → r ≡ not (build_row n own words)
     row_end e r p =
         let s = and_both (ids_first words) _ (sym rest_front ∙ e) in
         let all : count ≡ length (ids words) = size ∙ ap length (entries_ids n few words s.1) in
-        let front : take (count - 0) words ≡ take (length (ids words)) words = part-front count words ∙ ap (λ (k : ℕ). take k words) all in
-        p ∙ ap not (ap (λ (l : List ℕ). apart (own ∷ []) l) front ∙ sym (row_repeats s.1 s.0))
+        p ∙ ap not (ap (λ (k : ℕ). apart (own ∷ []) (take k words)) all ∙ sym (row_repeats s.1 s.0))
 
 -- ---- the rows from row i on
 pub record Rowed (n width : ℕ) (table : List ℕ) (i : ℕ) (marks : List ℕ) : Type 0 where

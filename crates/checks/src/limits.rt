@@ -11,20 +11,14 @@ use table::slack;
 pub fn bad_dim(dim: usize) -> bool
     ensures { result ≡ bad_dim dim }
 {
-    if dim == 0 {
-        return true;
-    }
-    256 < dim
+    dim == 0 || 256 < dim
 }
 
 // 2, n alone
 pub fn bad_count(n: usize) -> bool
     ensures { result ≡ bad_count n }
 {
-    if n == 0 {
-        return true;
-    }
-    65536 < n
+    n == 0 || 65536 < n
 }
 
 // 2, with the vectors
@@ -32,21 +26,14 @@ pub fn bad_vectors(n: usize, dim: usize, vectors: &[u8]) -> bool
     requires { dim ≤ 256 }
     ensures { result ≡ bad_vectors n dim vectors.now }
 {
-    if bad_count(n) {
-        return true;
-    }
-    let all = n * dim;
-    vectors.len() != all
+    bad_count(n) || vectors.len() != n * dim
 }
 
 // 3
 pub fn bad_degree(degree: usize) -> bool
     ensures { result ≡ bad_degree degree }
 {
-    if degree == 0 {
-        return true;
-    }
-    64 < degree
+    degree == 0 || 64 < degree
 }
 
 // 4
@@ -74,10 +61,7 @@ pub fn bad_start(n: usize, start: u32) -> bool
 pub fn bad_extra(n: usize, extra: usize) -> bool
     ensures { result ≡ bad_extra n extra }
 {
-    if 16 < extra {
-        return true;
-    }
-    n <= extra
+    16 < extra || n <= extra
 }
 
 // 8, the length alone, of a table whose rows have `width` words
@@ -85,8 +69,7 @@ pub fn bad_length(n: usize, width: usize, length: usize) -> bool
     requires { (n ≤ 65536) × (width ≤ 128) }
     ensures { result ≡ wrong_length n width length }
 {
-    let all = n * width;
-    length != all
+    length != n * width
 }
 
 // 8, the length alone, of a wide table
@@ -94,6 +77,5 @@ pub fn bad_wide_length(n: usize, degree: usize, length: usize) -> bool
     requires { (n ≤ 65536) × (degree ≤ 64) }
     ensures { result ≡ wrong_length n (slack degree) length }
 {
-    let width = slack(degree);
-    bad_length(n, width, length)
+    bad_length(n, slack(degree), length)
 }

@@ -8,16 +8,7 @@ ghost use Rattle.checks.specs.Lengths.{build_short, search_short_by};
 pub fn most_answers(beam: usize, k: usize) -> usize
     ensures { result ≡ most_answers beam k }
 {
-    if beam == 0 {
-        if k == 0 {
-            return 0;
-        }
-        return 1;
-    }
-    if k < beam {
-        return k;
-    }
-    beam
+    k.min(beam.max(1))
 }
 
 // Of a search. `run` is the length of the run of records; where there is none, k, which is never short.
@@ -34,21 +25,8 @@ pub fn search_short(
     requires { n ≤ 65536 }
     ensures { result ≡ search_short_by n beam k words floats ids dists run }
 {
-    let w = n + 512;
-    if words < w {
-        return true;
-    }
-    if floats < 512 {
-        return true;
-    }
     let most = most_answers(beam, k);
-    if ids < most {
-        return true;
-    }
-    if dists < most {
-        return true;
-    }
-    run < most
+    words < n + 512 || floats < 512 || ids < most || dists < most || run < most
 }
 
 // Of a batch, close or whole build.
@@ -56,10 +34,5 @@ pub fn build_short(n: usize, words: usize, floats: usize) -> bool
     requires { n ≤ 65536 }
     ensures { result ≡ build_short n words floats }
 {
-    let w = 6 * n + 32768;
-    if words < w {
-        return true;
-    }
-    let f = 4 * n + 1024;
-    floats < f
+    words < 6 * n + 32768 || floats < 4 * n + 1024
 }

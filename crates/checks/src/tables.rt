@@ -19,13 +19,8 @@ pub fn has_foreign(n: usize, words: &[u32]) -> bool
 {
     let most = n as u32;
     let mut found = false;
-    let mut i = 0;
-    while i < words.len() {
-        let up = std::num::wrapping_add_u32(words[i], 1);
-        if most < up {
-            found = true;
-        }
-        i += 1;
+    for &word in words {
+        found |= most < word.wrapping_add(1);
     }
     found
 }
@@ -35,10 +30,7 @@ pub fn bad_searched(n: usize, degree: usize, table: &[u32]) -> bool
     requires { (n ≤ 65536) × (degree ≤ 64) }
     ensures { result ≡ bad_searched n degree table.now }
 {
-    if bad_length(n, degree, table.len()) {
-        return true;
-    }
-    has_foreign(n, table)
+    bad_length(n, degree, table.len()) || has_foreign(n, table)
 }
 
 // How many words are ids below n.
@@ -48,12 +40,10 @@ pub fn count_entries(n: usize, words: &[u32]) -> usize
 {
     let most = n as u32;
     let mut count: u32 = 0;
-    let mut i = 0;
-    while i < words.len() {
-        if words[i] < most {
+    for &word in words {
+        if word < most {
             count += 1;
         }
-        i += 1;
     }
     count as usize
 }
@@ -64,10 +54,7 @@ fn bad_row(n: usize, own: usize, marks: &mut [u8], words: &[u32]) -> bool
     ensures { result ≡ not (build_row n own words.now) }
 {
     let count = count_entries(n, words);
-    if !only_padding(&words[count..]) {
-        return true;
-    }
-    row_repeats(marks, own as u32, &words[0..count])
+    !only_padding(&words[count..]) || row_repeats(marks, own as u32, &words[..count])
 }
 
 // Whether a row breaks the build rule: one pass over the table.
@@ -76,14 +63,11 @@ fn bad_rows(n: usize, width: usize, table: &[u32]) -> bool
     ensures { result ≡ not (build_rule n width table.now) }
 {
     let mut marks = [0u8; 16384];
-    let mut i = 0;
-    while i < n {
-        let a = i * width;
-        let e = a + width;
-        if bad_row(n, i, &mut marks, &table[a..e]) {
+    for i in 0..n {
+        let at = i * width;
+        if bad_row(n, i, &mut marks, &table[at..at + width]) {
             return true;
         }
-        i += 1;
     }
     false
 }
@@ -93,10 +77,7 @@ pub fn bad_table(n: usize, width: usize, table: &[u32]) -> bool
     requires { (n ≤ 65536) × (width ≤ 128) }
     ensures { result ≡ bad_table n width table.now }
 {
-    if bad_length(n, width, table.len()) {
-        return true;
-    }
-    bad_rows(n, width, table)
+    bad_length(n, width, table.len()) || bad_rows(n, width, table)
 }
 
 // A wide table, by the degree: its rows have slack(degree) words.
@@ -104,6 +85,5 @@ pub fn bad_wide(n: usize, degree: usize, table: &[u32]) -> bool
     requires { (n ≤ 65536) × (degree ≤ 64) }
     ensures { result ≡ bad_table n (slack degree) table.now }
 {
-    let width = slack(degree);
-    bad_table(n, width, table)
+    bad_table(n, slack(degree), table)
 }

@@ -1,10 +1,9 @@
 -- A row's stamp at each id that was passed. Where an id does not find it, the id is new; where it does, only a look through the row tells.
-use Rattle.std.specs.Prelude.{◌≡◌, Bool, not, ◌||◌, ℕ, ◌+◌, ◌-◌, ◌%◌, ◌≤◌, ◌<◌, length, set, take, drop}
+use Rattle.std.specs.Prelude.{◌≡◌, Bool, not, ◌||◌, ℕ, ◌+◌, ◌%◌, ◌≤◌, ◌<◌, length, set, take, drop}
 use Rattle.std.proofs.Math.Path.{refl, sym, ap}
 use Rattle.std.proofs.Common.{◌∙◌, true≢false, mod-lt, add-one, arith, eqb-true, eq-eqb, ne_eqb, get_or-set_same, get_or-set_other, take-suc}
 use Rattle.std.proofs.Math.Bool.{true, false, or-true, or_assoc, or_comm}
 use mathlib.Core.List.{List, [], ◌∷◌}
-use Rattle.std.proofs.Math.Nat.{sub-zero}
 use Rattle.std.proofs.lemmas.Bool.{eqb-false}
 use Rattle.std.proofs.Math.Dec.{eqb}
 use Rattle.std.proofs.Math.ListN.{get_or, length-set}
@@ -68,8 +67,8 @@ module _ (own stamp : ℕ) (ids : List ℕ) where
       pub stamp_own : x ≡ own → true ≡ not (apart (own ∷ []) ids)
       stamp_own e = again (w.known x ∙ rw (eq-eqb x own e) refl)
 
-      pub stamp_among : is_in x (take (i - 0) ids) ≡ true → true ≡ not (apart (own ∷ []) ids)
-      stamp_among e = again (w.known x ∙ rw (← sub-zero i, e) (or-true (eqb x own)))
+      pub stamp_among : is_in x (take i ids) ≡ true → true ≡ not (apart (own ∷ []) ids)
+      stamp_among e = again (w.known x ∙ rw e (or-true (eqb x own)))
 
       -- the id is new: by its mark, or by the look through the row
       on : is_in x w.seen ≡ false → Stamped own stamp ids (i + 1) (set marks (x % 16384) stamp)
@@ -92,5 +91,5 @@ module _ (own stamp : ℕ) (ids : List ℕ) where
           go true e = absurd (ne (w.carried x e))
           go false e = refl
 
-      pub stamp_looked : (x ≡ own → ⊥) → is_in x (take (i - 0) ids) ≡ false → Stamped own stamp ids (i + 1) (set marks (x % 16384) stamp)
-      stamp_looked ne e = on (w.known x ∙ rw (ne_eqb x own ne) (rw (← sub-zero i) e))
+      pub stamp_looked : (x ≡ own → ⊥) → is_in x (take i ids) ≡ false → Stamped own stamp ids (i + 1) (set marks (x % 16384) stamp)
+      stamp_looked ne e = on (w.known x ∙ rw (ne_eqb x own ne) e)

@@ -11,12 +11,8 @@ pub fn is_among(x: u32, ids: &[u32]) -> bool
     ensures { result ≡ is_in x ids.now }
 {
     let mut found = false;
-    let mut i = 0;
-    while i < ids.len() {
-        if x == ids[i] {
-            found = true;
-        }
-        i += 1;
+    for &id in ids {
+        found |= x == id;
     }
     found
 }
@@ -28,17 +24,15 @@ pub fn has_repeat(ids: &[u32]) -> bool
     ensures { result ≡ not (distinct ids.now) }
 {
     let mut bits = [0u64; 1024];
-    let mut i = 0;
-    while i < ids.len() {
-        let x = ids[i] as usize;
+    for &id in ids {
+        let x = id as usize;
         let cell = x % 1024;
-        let place = (x / 1024) as u64;
+        let place = x / 1024;
         let word = bits[cell];
         if (word >> place) % 2 == 1 {
             return true;
         }
         bits[cell] = word | (1 << place);
-        i += 1;
     }
     false
 }
@@ -51,20 +45,12 @@ pub fn row_repeats(marks: &mut [u8], own: u32, ids: &[u32]) -> bool
 {
     let stamp = (own % 255 + 1) as u8;
     marks[(own % 16384) as usize] = stamp;
-    let mut i = 0;
-    while i < ids.len() {
-        let x = ids[i];
+    for (i, &x) in ids.iter().enumerate() {
         let cell = (x % 16384) as usize;
-        if marks[cell] == stamp {
-            if x == own {
-                return true;
-            }
-            if is_among(x, &ids[0..i]) {
-                return true;
-            }
+        if marks[cell] == stamp && (x == own || is_among(x, &ids[..i])) {
+            return true;
         }
         marks[cell] = stamp;
-        i += 1;
     }
     false
 }

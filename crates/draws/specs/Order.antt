@@ -1,6 +1,8 @@
 -- An order: the exchanges, and the two parts that are lent for it.
-use Rattle.std.specs.Prelude.{◌≡◌, ℕ, suc, ◌+◌, ◌-◌, ◌<◌, ◌≤◌, List, ◌++◌, length, take, drop, set, slice_index, slice_set, refl}
+use Rattle.std.specs.Prelude.{◌≡◌, ℕ, suc, ◌+◌, ◌-◌, ◌<◌, ◌≤◌, List, ◌++◌, length, take, drop, set, slice_index, slice_set}
 use Rattle.std.proofs.Common.{sym, ap, ◌∙◌, subst, arith, length-set, length-take-le, take_at, drop_at}
+use Rattle.std.proofs.lemmas.List.Edits.{swap_is}
+use Rattle.std.specs.List.{swap}
 use borrow.Rule.Slice.PartMut.{put_mid}
 use Rattle.definition.specs.Lists.{upto, over}
 use Rattle.definition.specs.Draws.{Drawn, advance, drawn, shuffled, exchanged, order_drawn}
@@ -14,13 +16,10 @@ pub record Shuffling (o : List ℕ) (s₀ : ℕ) (out : List ℕ) (i s : ℕ) : 
   pub inside : i < length o
   pub leads : shuffled i out s ≡ shuffled (length o - 1) o s₀
 
-pub shuffle_start : (o : List ℕ) (s : ℕ) → 0 < length o → Shuffling o s o (length o - 1) s
-shuffle_start o s h = record { size = refl; inside = omega arith; leads = refl }
-
-pub shuffle_turn : (o : List ℕ) (s₀ : ℕ) (out : List ℕ) (i s j s' : ℕ) → 0 < i → j ≡ drawn (i + 1) s' → s' ≡ advance s → Shuffling o s₀ out i s
+exchange_turn : (o : List ℕ) (s₀ : ℕ) (out : List ℕ) (i s j s' : ℕ) → 0 < i → j ≡ drawn (i + 1) s' → s' ≡ advance s → Shuffling o s₀ out i s
     → Shuffling o s₀ (slice_set (slice_set out i (slice_index out j)) j (slice_index out i)) (i - 1) s'
 unfolding shuffled exchanged
-shuffle_turn o s₀ out i s j s' h e e' k =
+exchange_turn o s₀ out i s j s' h e e' k =
     let w = shuffled (length o - 1) o s₀ in
     let swapped : ℕ → ℕ → List ℕ = λ p d. set (slice_set out p (slice_index out d)) d (slice_index out p) in
     let q : i ≡ suc (i - 1) = omega arith in
@@ -35,6 +34,13 @@ shuffle_turn o s₀ out i s j s' h e e' k =
           ∙ ap (λ (z : ℕ). shuffled (i - 1) (swapped (suc (i - 1)) (drawn (suc (i - 1) + 1) z)) z) e'
           ∙ g;
     }
+
+-- as the code has it: the slice's own exchange
+pub shuffle_turn : (o : List ℕ) (s₀ : ℕ) (out : List ℕ) (i s j s' : ℕ) → 0 < i → j ≤ i → j ≡ drawn (i + 1) s' → s' ≡ advance s → Shuffling o s₀ out i s
+    → Shuffling o s₀ (swap out i j) (i - 1) s'
+shuffle_turn o s₀ out i s j s' h l e e' k =
+    let is = swap_is out i j 0 (omega (arith, k.size, k.inside)) (omega (arith, k.size, k.inside)) in
+    subst (λ (z : List ℕ). Shuffling o s₀ z (i - 1) s') is (exchange_turn o s₀ out i s j s' h e e' k)
 
 pub shuffle_end : (o : List ℕ) (s₀ : ℕ) (out : List ℕ) (i s : ℕ) → i ≤ 0 → Shuffling o s₀ out i s
     → record { words = out; state = s } ≡ shuffled (length o - 1) o s₀

@@ -1,12 +1,13 @@
 -- Draws below n, one after another.
-use Rattle.std.specs.Prelude.{◌≡◌, ℕ, suc, ◌+◌, ◌-◌, ◌<◌, ◌≤◌, min, List, length, slice_set}
-use Rattle.std.proofs.Math.Path.{subst}
+use Rattle.std.specs.Prelude.{◌≡◌, ℕ, suc, ◌+◌, ◌-◌, ◌<◌, ◌≤◌, min, List, ◌++◌, length, drop, slice_set}
+use Rattle.std.proofs.Common.{sym, ap, ◌∙◌, subst}
 use Rattle.std.proofs.Math.Nat.{sub-zero}
 use native.Mathlib.Omega.{arith}
 use Rattle.definition.specs.Draws.{advance, drawn, draws_below, pivots_drawn}
 use Rattle.draws.specs.Says.{Leaves}
-use Rattle.laws.specs.Writing.{put}
-use Rattle.draws.specs.Filling.{Filling, fill_start, fill_ends}
+use Rattle.definition.specs.Lists.{over}
+use Rattle.laws.specs.Writing.{put, all_ends}
+use Rattle.draws.specs.Filling.{Filling, fill_start}
 
 -- k draws in all, i of them written
 abbrev pub Drawing : ℕ → ℕ → ℕ → List ℕ → List ℕ → ℕ → ℕ → Type 0
@@ -24,11 +25,16 @@ module _ (n k s₀ : ℕ) (o : List ℕ) where
         let g = subst (λ (m : ℕ). Filling (draws_below n k s₀) o out i (draws_below n m s)) q f in
         record { words = put _ o out i _ _ l g.words; state_is = g.state_is }
 
-    pub draws_end : k ≤ i → i ≤ length out → Leaves (draws_below n k s₀) o s out
-    unfolding draws_below
-    draws_end h l =
+    -- the k words are the front of a list, and what is behind them stays
+    pub draws_end : (whole : List ℕ) → length out ≡ k → k ≤ i → Leaves (draws_below n k s₀) whole s (out ++ drop k whole)
+    unfolding draws_below over
+    draws_end whole size h =
         let q : k - i ≡ 0 = omega arith in
-        fill_ends _ o out i s l (subst (λ (m : ℕ). Filling (draws_below n k s₀) o out i (draws_below n m s)) q f)
+        let g = subst (λ (m : ℕ). Filling (draws_below n k s₀) o out i (draws_below n m s)) q f in
+        record {
+          words_are = ap (λ (m : ℕ). out ++ drop m whole) (sym size) ∙ ap (λ (l : List ℕ). over l whole) (all_ends _ o out i (omega arith) g.words);
+          state_is = g.state_is;
+        }
 
 pub pivots_leaves : (n k s s' : ℕ) (o after : List ℕ) → k ≡ min 8 n → Leaves (draws_below n k s) o s' after → Leaves (pivots_drawn n s) o s' after
 unfolding pivots_drawn

@@ -1,5 +1,5 @@
 -- A group of seeds: what is taken, the first that is free, and the group as it grows.
-use Rattle.std.specs.Prelude.{◌≡◌, ℕ, zero, suc, ◌+◌, ◌-◌, ◌%◌, ◌<◌, ◌≤◌, true, false, cond, List, [], ◌∷◌, ◌++◌, length, take, drop, ◌≢◌, slice_set}
+use Rattle.std.specs.Prelude.{◌≡◌, ℕ, zero, suc, ◌+◌, ◌-◌, ◌%◌, ◌<◌, ◌≤◌, true, false, cond, List, [], ◌∷◌, ◌++◌, length, take, ◌≢◌, slice_set}
 use Rattle.std.proofs.Math.Path.{refl, sym, ap, subst}
 use Rattle.std.proofs.Common.{◌∙◌, mod-eq_of_lt, add-one, eq-eqb, ne_eqb}
 use Rattle.std.proofs.Math.Nat.{sub-zero, mod-mod, mod-add-mod}
@@ -75,11 +75,11 @@ module _ (n start extra s₀ : ℕ) (o : List ℕ) where
         }
 
     -- as the code has it: the group is the part that ends at k
-    pub group_turn : (s' r x : ℕ) → k < extra → k < length out → r ≡ drawn n s' → s' ≡ advance s → x ≡ first_free n (start ∷ take (k - 0) (drop 0 out)) n r
+    pub group_turn : (s' r x : ℕ) → k < extra → k < length out → r ≡ drawn n s' → s' ≡ advance s → x ≡ first_free n (start ∷ take k out) n r
         → Grouping n start extra s₀ o (slice_set out k x) (k + 1) s'
     group_turn s' r x h l er es is =
         let e : x ≡ first_free n (start ∷ take k out) n (drawn n (advance s)) =
-        is ∙ ap (λ (m : ℕ). first_free n (start ∷ take m out) n r) (sub-zero k) ∙ ap (first_free n (start ∷ take k out) n) (er ∙ ap (drawn n) es) in
+        is ∙ ap (first_free n (start ∷ take k out) n) (er ∙ ap (drawn n) es) in
         subst (λ (z : ℕ). Grouping n start extra s₀ o (slice_set out k x) (k + 1) z) (sym es) (one_more x h l e)
 
     pub group_end : extra ≤ k → k ≤ length out → Leaves (seeds_from n start extra [] s₀) o s out

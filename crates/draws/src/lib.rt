@@ -116,7 +116,7 @@ pub fn pivots_drawn(state: u64, n: usize, out: &mut [u32]) -> Stepped
     if bad_count(n) {
         return kept(state, Refusal::Entries);
     }
-    let many = laws::least(8, n);
+    let many = n.min(8);
     if out.len() < many {
         return kept(state, Refusal::Room);
     }

@@ -7,8 +7,5 @@ pub fn wrapped(x: u32, m: u32) -> u32
     requires { x < m + m }
     ensures { result ≡ x % m }
 {
-    if x < m {
-        return x;
-    }
-    x - m
+    if x < m { x } else { x - m }
 }

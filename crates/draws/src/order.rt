@@ -11,10 +11,8 @@ pub fn count_up(out: &mut [u32])
     requires { length out.old ≤ 65536 }
     ensures { out.new ≡ upto (length out.old) }
 {
-    let mut i = 0;
-    while i < out.len() {
-        out[i] = i as u32;
-        i += 1;
+    for (i, word) in out.iter_mut().enumerate() {
+        *word = i as u32;
     }
 }
 
@@ -24,15 +22,11 @@ pub fn shuffle(state: u64, out: &mut [u32]) -> u64
     ensures { record { words = out.new; state = result } ≡ shuffled (length out.old - 1) out.old state }
 {
     let mut s = state;
-    let mut i = out.len() - 1;
-    while 0 < i {
+    for i in (1..out.len()).rev() {
         s = advance(s);
         let below = (i + 1) as u32;
         let j = drawn(below, s) as usize;
-        let held = out[i];
-        out[i] = out[j];
-        out[j] = held;
-        i -= 1;
+        out.swap(i, j);
     }
     s
 }

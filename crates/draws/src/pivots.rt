@@ -12,11 +12,9 @@ pub fn fill_draws(state: u64, n: u32, many: usize, out: &mut [u32]) -> u64
     ensures { Leaves (draws_below n many state) out.old result out.new }
 {
     let mut s = state;
-    let mut i = 0;
-    while i < many {
+    for word in &mut out[..many] {
         s = advance(s);
-        out[i] = drawn(n, s);
-        i += 1;
+        *word = drawn(n, s);
     }
     s
 }

@@ -8,7 +8,6 @@ ghost use Rattle.draws.specs.Says.{Leaves};
 
 use super::numbers::wrapped;
 use super::step::{advance, drawn};
-use laws::least;
 use table::pad_from;
 
 // The ids of opening row i of n above 1 entries, from the draw r, as many as there is room for: `step` is (r + j) mod (n-1).
@@ -17,11 +16,9 @@ pub fn write_ids(n: u32, i: u32, r: u32, ids: &mut [u32])
     ensures { ids.new ≡ row_ids n i r (upto (length ids.old)) }
 {
     let mut step = r;
-    let mut j = 0;
-    while j < ids.len() {
-        ids[j] = wrapped(i + 1 + step, n);
+    for id in ids.iter_mut() {
+        *id = wrapped(i + 1 + step, n);
         step = wrapped(step + 1, n - 1);
-        j += 1;
     }
 }
 
@@ -30,9 +27,8 @@ pub fn write_row(n: u32, i: u32, r: u32, row: &mut [u32])
     requires { (1 < n) × (n ≤ 65536) × (i < n) × (r < n - 1) }
     ensures { row.new ≡ padded (length row.old) (row_ids n i r (upto (min (length row.old) (n - 1)))) }
 {
-    let width = row.len();
-    let many = least(width, (n - 1) as usize);
-    write_ids(n, i, r, &mut row[0..many]);
+    let many = row.len().min((n - 1) as usize);
+    write_ids(n, i, r, &mut row[..many]);
     pad_from(row, many);
 }
 
@@ -43,14 +39,11 @@ pub fn fill_rows(state: u64, n: usize, degree: usize, table: &mut [u32]) -> u64
 {
     let entries = n as u32;
     let mut s = state;
-    let mut i = 0;
-    while i < n {
+    for i in 0..n {
         s = advance(s);
         let r = drawn(entries - 1, s);
         let at = i * degree;
-        let end = at + degree;
-        write_row(entries, i as u32, r, &mut table[at..end]);
-        i += 1;
+        write_row(entries, i as u32, r, &mut table[at..at + degree]);
     }
     s
 }

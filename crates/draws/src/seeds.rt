@@ -13,26 +13,21 @@ use checks_repeats::is_among;
 pub fn is_taken(x: u32, start: u32, group: &[u32]) -> bool
     ensures { result ≡ is_in x (start ∷ group.now) }
 {
-    if x == start {
-        return true;
-    }
-    is_among(x, group)
+    x == start || is_among(x, group)
 }
 
 // The first of r, r + 1, .. mod n that is neither the start nor in the group.
-// These are distinct, so that one of the first `group.len() + 2` is free, and the loop ends there at the latest: `left` is the definition's bound.
+// These are distinct, so that one of the first `group.len() + 2` is free, and the loop ends there at the latest: n turns are the definition's bound.
 pub fn first_free(n: u32, start: u32, group: &[u32], r: u32) -> u32
     requires { (0 < n) × (n ≤ 65536) × (r < n) }
     ensures { result ≡ first_free n (start ∷ group.now) n r }
 {
     let mut x = r;
-    let mut left = n;
-    while 0 < left {
+    for _ in 0..n {
         if !is_taken(x, start, group) {
             return x;
         }
         x = wrapped(x + 1, n);
-        left -= 1;
     }
     x
 }
@@ -43,13 +38,11 @@ pub fn fill_seeds(state: u64, n: u32, start: u32, extra: usize, out: &mut [u32])
     ensures { Leaves (seeds_from n start extra [] state) out.old result out.new }
 {
     let mut s = state;
-    let mut k = 0;
-    while k < extra {
+    for k in 0..extra {
         s = advance(s);
         let r = drawn(n, s);
-        let seed = first_free(n, start, &out[0..k], r);
+        let seed = first_free(n, start, &out[..k], r);
         out[k] = seed;
-        k += 1;
     }
     s
 }

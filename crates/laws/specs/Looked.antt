@@ -1,7 +1,7 @@
 -- A loop with no way out that looks for an element which fails a test: `found` after i elements.
-use Rattle.std.specs.Prelude.{◌≡◌, refl, Bool, true, false, not, ◌||◌, List, ℕ, ◌+◌, ◌≤◌, ◌<◌, length, get_or, drop}
+use Rattle.std.specs.Prelude.{◌≡◌, refl, Bool, true, false, not, ◌&&◌, ◌||◌, List, ℕ, ◌+◌, ◌≤◌, ◌<◌, length, get_or, drop}
 use Rattle.std.proofs.Common.{sym, ap, ◌∙◌, arith}
-use Rattle.std.proofs.Math.Bool.{or-true, or-false, not-not}
+use Rattle.std.proofs.Math.Bool.{or-false, not-not}
 use Rattle.definition.specs.Lists.{each}
 use Rattle.laws.specs.Members.{each_step, each_end}
 
@@ -9,19 +9,18 @@ pub record Looked (p : ℕ → Bool) (l : List ℕ) (i : ℕ) (found : Bool) : T
   pub upto : i ≤ length l
   pub same : (found || not (each p (drop i l))) ≡ not (each p l)
 
-pub look-start : (p : ℕ → Bool) (l : List ℕ) → Looked p l 0 false
-look-start p l = record { upto = omega arith; same = refl }
-
-module _ (p : ℕ → Bool) (l : List ℕ) (i : ℕ) (found : Bool) (w : Looked p l i found) (h : i < length l) where
-  pub look_bad : p (get_or l i 0) ≡ false → Looked p l (i + 1) true
-  look_bad e =
-      let broken : each p (drop i l) ≡ false = each_step p l i h ∙ rw e refl in
-      record { upto = omega arith; same = sym (or-true found) ∙ ap (λ (t : Bool). found || not t) (sym broken) ∙ w.same }
-
-  pub look_good : p (get_or l i 0) ≡ true → Looked p l (i + 1) found
-  look_good e =
-      let kept : each p (drop i l) ≡ each p (drop (i + 1) l) = each_step p l i h ∙ rw e refl in
-      record { upto = omega arith; same = ap (λ (t : Bool). found || not t) (sym kept) ∙ w.same }
+pub look_more : (p : ℕ → Bool) (l : List ℕ) (i : ℕ) (found fails : Bool) → Looked p l i found → i < length l → fails ≡ not (p (get_or l i 0))
+    → Looked p l (i + 1) (found || fails)
+look_more p l i found fails w h e =
+    record {
+      upto = omega arith;
+      same = rw e (one (p (get_or l i 0)) found (each p (drop (i + 1) l))) ∙ ap (λ (t : Bool). found || not t) (sym (each_step p l i h)) ∙ w.same;
+    }
+  where
+    one : (t f rest : Bool) → ((f || not t) || not rest) ≡ (f || not (t && rest))
+    one t true rest = refl
+    one true false rest = refl
+    one false false rest = refl
 
 module _ (p : ℕ → Bool) (l : List ℕ) (i : ℕ) (found : Bool) (w : Looked p l i found) (h : length l ≤ i) where
   pub look_end : found ≡ not (each p l)

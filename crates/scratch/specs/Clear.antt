@@ -1,7 +1,6 @@
 -- The room at the end of a call.
-use Rattle.std.specs.Prelude.{ℕ, ◌-◌, ◌≤◌, ◌≡◌, List, ◌++◌, Float, length, take, drop, replicate}
-use Rattle.std.proofs.Common.{arith, ap, ◌∙◌, length-take}
-use borrow.Rule.Slice.PartMut.{put_mid}
+use Rattle.std.specs.Prelude.{ℕ, ◌≤◌, ◌≡◌, List, ◌++◌, Float, length, take, drop, replicate}
+use Rattle.std.proofs.Common.{ap, ◌∙◌, length-take-le}
 use Rattle.std.specs.Float.Ieee.{of_bits}
 use Rattle.std.specs.Float.{binary32}
 use Rattle.definition.specs.Lists.{cleared}
@@ -15,15 +14,13 @@ pub record FrontClear (w f : ℕ) (words₀ : List ℕ) (floats₀ : List Float)
   pub floats_are : floats ≡ cleared nought f floats₀
 
 -- a front that came back all z
-put-cleared : {A : Type 0} (z : A) (room : ℕ) (l front : List A) → room ≤ length l → front ≡ replicate (length (take (room - 0) l)) z → front ++ drop (room - 0) l ≡ cleared z room l
+put-cleared : {A : Type 0} (z : A) (room : ℕ) (l front : List A) → room ≤ length l → front ≡ replicate (length (take room l)) z → front ++ drop room l ≡ cleared z room l
 unfolding cleared
-put-cleared {A} z room l front h e =
-    let r : room - 0 ≡ room = omega arith in
-    let size : length (take (room - 0) l) ≡ room = length-take (room - 0) l ∙ omega arith in
-    ap (λ (k : List A). k ++ drop (room - 0) l) (e ∙ ap (λ (k : ℕ). replicate k z) size) ∙ ap (λ (k : ℕ). replicate room z ++ drop k l) r
+put-cleared {A} z room l front h e = ap (λ (k : List A). k ++ drop room l) (e ∙ ap (λ (k : ℕ). replicate k z) (length-take-le room l h))
 
-pub front-clear : (w f : ℕ) (words : List ℕ) (floats : List Float) (ws : List ℕ) (fs : List Float) → w ≤ length words → f ≤ length floats → ws ≡ replicate (length (take (w - 0) words)) 0
-    → fs ≡ replicate (length (take (f - 0) floats)) (of_bits binary32 0) → FrontClear w f words floats (put_mid 0 (w - 0) words ws) (put_mid 0 (f - 0) floats fs)
+pub front-clear : (w f : ℕ) (words : List ℕ) (floats : List Float) (ws : List ℕ) (fs : List Float) → w ≤ length words → f ≤ length floats
+    → ws ≡ replicate (length (take w words)) 0 → fs ≡ replicate (length (take f floats)) (of_bits binary32 0)
+    → FrontClear w f words floats (ws ++ drop w words) (fs ++ drop f floats)
 unfolding nought
 front-clear w f words floats ws fs hw hf ew ef = record { words_are = put-cleared 0 w words ws hw ew; floats_are = put-cleared (of_bits binary32 0) f floats fs hf ef }
 

@@ -137,22 +137,14 @@ pub fn floats_end(n: usize) -> usize
 pub fn clear_words(s: &mut [u32])
     ensures { s.new ≡ replicate (length s.old) 0 }
 {
-    let mut i = 0;
-    while i < s.len() {
-        s[i] = 0;
-        i += 1;
-    }
+    s.fill(0);
 }
 
 // Every float becomes +0.0.
 pub fn clear_floats(s: &mut [f32])
     ensures { s.new ≡ replicate (length s.old) (of_bits binary32 0) }
 {
-    let mut i = 0;
-    while i < s.len() {
-        s[i] = 0.0;
-        i += 1;
-    }
+    s.fill(0.0);
 }
 
 // The first w words and the first f floats become 0; what lies beyond is untouched.
@@ -160,8 +152,8 @@ pub fn clear_front(words: &mut [u32], floats: &mut [f32], w: usize, f: usize)
     requires { (w ≤ length words.old) × (f ≤ length floats.old) }
     ensures { FrontClear w f words.old floats.old words.new floats.new }
 {
-    clear_words(&mut words[0..w]);
-    clear_floats(&mut floats[0..f]);
+    clear_words(&mut words[..w]);
+    clear_floats(&mut floats[..f]);
 }
 
 // The room of a batch, close or whole build becomes 0.

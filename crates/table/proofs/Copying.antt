@@ -2,7 +2,7 @@
 use Prim.Native.Nat.{ℕ, ◌+◌, ◌≤◌, ◌<◌}
 use native.Mathlib.Numerals.{add-one}
 use native.Mathlib.Omega.{arith}
-use mathlib.Core.Path.{◌≡◌, refl, sym, ap, ◌∙◌, subst}
+use mathlib.Core.Path.{◌≡◌, sym, ap, ◌∙◌, subst}
 use mathlib.Core.List.{List, [], ◌∷◌, ◌++◌, append_assoc, append-nil}
 use lib.ListN.{length, get_or, take, drop, set, length-set, drop_of_length-le}
 use lib.Seq.{drop-cons, take-suc-set}
@@ -16,9 +16,6 @@ pub record Copying (words out : List ℕ) (count i : ℕ) : Type 0 where
   pub few : count ≤ i
   pub room : length words ≤ length out
   pub are : take count out ++ ids (drop i words) ≡ ids words
-
-pub copy_start : (words out : List ℕ) → length words ≤ length out → Copying words out 0 0
-copy_start words out h = record { most = omega arith; few = omega arith; room = h; are = refl }
 
 module _ (words out : List ℕ) (count i : ℕ) (s : Copying words out count i) (h : i < length words) where
   next : drop i words ≡ get_or words i 0 ∷ drop (i + 1) words

@@ -1,23 +1,11 @@
--- A row of which the words from place i on are still to become padding: with padding for them it is what it will be, and a turn of the loop changes none of it.
-use mathlib.Core.Path.{◌≡◌}
-use mathlib.Core.List.{List, [], ◌∷◌, ◌++◌, append_assoc, append-nil}
-use Prim.Native.Nat.{ℕ, suc, ◌+◌, ◌-◌, ◌≤◌, ◌<◌}
-use native.Mathlib.Numerals.{add-one}
-use native.Mathlib.Omega.{arith}
-use lib.ListN.{length, take, set, replicate, length-set}
-use lib.Seq.{take-suc-set, take_all, length-take-le}
+-- A row of which all words from place i on became padding.
+use Rattle.std.proofs.Common.{◌≡◌, refl, List, [], ℕ, ◌-◌, ◌≤◌, length, take, drop, replicate, append-nil, arith, length-drop, length-take-le, drop_of_length-le}
+use borrow.Rule.Slice.PartMut.{put_mid, mid_len}
 use Rattle.definition.specs.Tables.{pad, padded}
 
-pub padded-turn : (l : List ℕ) (i : ℕ) → i < length l → padded (length l) (take (i + 1) (set l i pad)) ≡ padded (length l) (take i l)
+pub padded_tail : (l tail : List ℕ) (i : ℕ) → i ≤ length l → tail ≡ replicate (length (take (length l - i) (drop i l))) pad
+    → put_mid i (length l - i) l tail ≡ padded (length l) (take i l)
 unfolding padded
-padded-turn l i h =
-    let front : take (i + 1) (set l i pad) ≡ take i l ++ (pad ∷ []) = rw (add-one i) (take-suc-set l i pad h) in
-    let size : length (take (i + 1) (set l i pad)) ≡ i + 1 = length-take-le (i + 1) (set l i pad) (omega (arith, length-set l i pad)) in
-    let rest : length l - i ≡ suc (length l - (i + 1)) = omega arith in
-    rw (size, length-take-le i l (omega arith), rest, front) (append_assoc (take i l) (pad ∷ []) (replicate (length l - (i + 1)) pad))
-
-pub padded_end : (l : List ℕ) (i : ℕ) → length l ≤ i → padded (length l) (take i l) ≡ l
-unfolding padded
-padded_end l i h =
-    let none : length l - length l ≡ 0 = omega arith in
-    rw (take_all i l h, none) (append-nil l)
+padded_tail l tail i h e =
+    let none : drop (length l - i) (drop i l) ≡ [] = drop_of_length-le (drop i l) (omega (arith, length-drop i l)) in
+    rw (e, none, append-nil (replicate (length (take (length l - i) (drop i l))) pad), mid_len i (length l) l (omega arith), length-take-le i l h) refl

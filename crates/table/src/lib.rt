@@ -37,12 +37,8 @@ pub fn only_padding(words: &[u32]) -> bool
     ensures { result ≡ only_pad words.now }
 {
     let mut found = false;
-    let mut i = 0;
-    while i < words.len() {
-        if words[i] != PADDING {
-            found = true;
-        }
-        i += 1;
+    for &word in words {
+        found |= word != PADDING;
     }
     !found
 }
@@ -52,11 +48,7 @@ pub fn pad_from(row: &mut [u32], from: usize)
     requires { from ≤ length row.old }
     ensures { row.new ≡ padded (length row.old) (take from row.old) }
 {
-    let mut i = from;
-    while i < row.len() {
-        row[i] = PADDING;
-        i += 1;
-    }
+    row[from..].fill(PADDING);
 }
 
 // A whole row: the ids, and then padding.
@@ -65,11 +57,7 @@ fn write_padded(row: &mut [u32], ids: &[u32])
     ensures { row.new ≡ padded (length row.old) ids.now }
 {
     let m = ids.len();
-    let mut i = 0;
-    while i < m {
-        row[i] = ids[i];
-        i += 1;
-    }
+    row[..m].copy_from_slice(ids);
     pad_from(row, m);
 }
 
@@ -79,8 +67,7 @@ pub fn put_row(table: &mut [u32], place: usize, width: usize, ids: &[u32])
     ensures { Stretched table.old table.new place width (length ids.now) ids.now }
 {
     let at = place * width;
-    let end = at + width;
-    write_padded(&mut table[at..end], ids);
+    write_padded(&mut table[at..at + width], ids);
 }
 
 // The ids of a row, in their order, to the front of `out`: how many there are.
@@ -89,14 +76,11 @@ pub fn copy_ids(row: &[u32], out: &mut [u32]) -> usize
     ensures { IdsCopied row.now out.new result }
 {
     let mut count = 0;
-    let mut i = 0;
-    while i < row.len() {
-        let word = row[i];
+    for &word in row {
         if word != PADDING {
             out[count] = word;
             count += 1;
         }
-        i += 1;
     }
     count
 }

@@ -1,11 +1,6 @@
 -- `has_repeat` meets its contract.
-use Prim.Native.Nat.{◌-◌}
-use lib.ListN.{length}
 use Rattle.checks_repeats.specs.Bits.{Passing}
 use Rattle.checks_repeats.proofs.has_repeat.Given as goal
 
-abbrev pub invariant-loop-i : goal.invariant-loop-i
-invariant-loop-i l = Passing l.ids l.i l.bits
-
-abbrev pub decreases-loop-i : goal.decreases-loop-i
-decreases-loop-i l = length l.ids - l.i
+abbrev pub invariant-loop-id : goal.invariant-loop-id
+invariant-loop-id l = Passing l.ids l.id-index l.bits

@@ -7,6 +7,6 @@ pub returns-then-n-eq0 : goal.returns-then-n-eq0
 unfolding bad_count
 returns-then-n-eq0 c = rw (eq-eqb _ _ c.if-n-eq0.true) refl
 
-pub returns : goal.returns
+pub returns-else-n-eq0 : goal.returns-else-n-eq0
 unfolding bad_count
-returns c = rw (ne_eqb _ _ c.if-n-eq0.false) refl
+returns-else-n-eq0 c = rw (ne_eqb _ _ c.if-n-eq0.false) refl

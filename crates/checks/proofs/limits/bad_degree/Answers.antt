@@ -7,6 +7,6 @@ pub returns-then-degree-eq0 : goal.returns-then-degree-eq0
 unfolding bad_degree
 returns-then-degree-eq0 c = rw (eq-eqb _ _ c.if-degree-eq0.true) refl
 
-pub returns : goal.returns
+pub returns-else-degree-eq0 : goal.returns-else-degree-eq0
 unfolding bad_degree
-returns c = rw (ne_eqb _ _ c.if-degree-eq0.false) refl
+returns-else-degree-eq0 c = rw (ne_eqb _ _ c.if-degree-eq0.false) refl

@@ -7,6 +7,6 @@ pub returns-then-extra-gt16 : goal.returns-then-extra-gt16
 unfolding bad_extra
 returns-then-extra-gt16 c = rw (lt-ltb _ _ c.if-extra-gt16.true) refl
 
-pub returns : goal.returns
+pub returns-else-extra-gt16 : goal.returns-else-extra-gt16
 unfolding bad_extra
-returns c = rw (le-ltb _ _ c.if-extra-gt16.false) refl
+returns-else-extra-gt16 c = rw (le-ltb _ _ c.if-extra-gt16.false) refl

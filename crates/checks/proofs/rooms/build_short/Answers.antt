@@ -4,10 +4,10 @@ use Rattle.definition.specs.Refusals.{build_words, build_floats}
 use Rattle.checks.specs.Lengths.{build_short}
 use Rattle.checks.proofs.rooms.build_short.Goals as goal
 
-pub returns-then-words-w : goal.returns-then-words-w
+pub returns-then-words-n : goal.returns-then-words-n
 unfolding build_short build_words
-returns-then-words-w c = rw (lt-ltb _ _ c.if-words-w.true) refl
+returns-then-words-n c = rw (lt-ltb _ _ c.if-words-n.true) refl
 
-pub returns : goal.returns
+pub returns-else-words-n : goal.returns-else-words-n
 unfolding build_short build_words build_floats
-returns c = rw (le-ltb _ _ c.if-words-w.false) refl
+returns-else-words-n c = rw (le-ltb _ _ c.if-words-n.false) refl

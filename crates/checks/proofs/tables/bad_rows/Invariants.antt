@@ -1,10 +1,6 @@
 -- `bad_rows` meets its contract.
-use Rattle.std.proofs.Common.{◌-◌}
 use Rattle.checks.specs.Rows.{Rowed}
 use Rattle.checks.proofs.tables.bad_rows.Given as goal
 
 abbrev pub invariant-loop-i : goal.invariant-loop-i
 invariant-loop-i l = Rowed l.n l.width l.table l.i l.marks
-
-abbrev pub decreases-loop-i : goal.decreases-loop-i
-decreases-loop-i l = l.n - l.i
