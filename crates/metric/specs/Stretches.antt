@@ -1,5 +1,6 @@
 -- What a stretch of two vectors adds to their distance, as the loops go through them, and the sixteen sums that it is added to.
-use Rattle.std.specs.Prelude.{◌≡◌, refl, List, [], ◌∷◌, ℕ, zero, suc, ◌+◌, ◌≤◌, ◌<◌, length, get_or, set, drop, replicate}
+use Rattle.std.specs.Prelude.{◌≡◌, refl, List, [], ◌∷◌, ℕ, zero, suc, ◌+◌, ◌≤◌, ◌<◌, length, get_or, set, drop, replicate, sum}
+use Rattle.std.specs.List.{fold}
 use Rattle.std.proofs.Common.{sym, ◌∙◌, subst, le_refl, add-zero, zero-add, add-one, arith, length-set, length-drop, drop_of_length-le, drop-cons}
 use Rattle.definition.specs.Lists.{total}
 use Rattle.definition.specs.Metric.{squared, summed, metric}
@@ -42,6 +43,15 @@ total_from sums j h = rw (add-one j, drop-cons sums j 0 h)
 pub total_end : (sums : List ℕ) (j : ℕ) → length sums ≤ j → total (drop j sums) ≡ 0
 unfolding total
 total_end sums j h = rw (drop_of_length-le sums h)
+
+-- that total is the library's sum
+fold_total : (a : ℕ) (sums : List ℕ) → fold ◌+◌ a sums ≡ a + total sums
+unfolding total
+fold_total a [] = omega arith
+fold_total a (s ∷ sums) = omega (arith, fold_total (a + s) sums)
+
+pub sum_total : (sums : List ℕ) → sum sums ≡ total sums
+sum_total sums = fold_total 0 sums ∙ zero-add (total sums)
 
 -- ---- stretches of two vectors: an empty one, one sample, two that meet, and all
 pub adds_none : (a b : List ℕ) (i : ℕ) → Adds a b i i 0
