@@ -1,91 +1,92 @@
--- The list of the visited grows: new entries' ids and distances go behind those that are there.
-use mathlib.Core.Path.{◌≡◌, sym, ap, ap₂, ◌∙◌}
-use mathlib.Core.List.{List, ◌++◌}
-use Prim.Native.Nat.{ℕ, ◌+◌, ◌-◌, ◌≤◌}
+-- The list of the visited grows, one entry after another: its id and its distance go behind those that are there.
+use mathlib.Core.Path.{◌≡◌, sym, ap, ◌∙◌, subst₂}
+use mathlib.Core.List.{List, [], ◌∷◌, ◌++◌, append_assoc, append-nil}
+use Prim.Native.Nat.{ℕ, suc, ◌+◌, ◌-◌, ◌≤◌, ◌<◌}
+use native.Mathlib.Nat.{add-zero}
+use native.Mathlib.Numerals.{add-one}
 use native.Mathlib.Omega.{arith}
-use lib.ListN.{length, take, drop}
-use lib.Seq.{take-add, take-take, drop-drop}
-use Rattle.laws.specs.Parts.{drop_take, part, part_length, put, put_part, put_within, within_above, within_below, within_trans, within_wider, Within}
+use lib.ListN.{length, get_or, take, set, length-set}
+use lib.Seq.{length-take-le, take_all, take-suc, take-suc-set}
+use Rattle.laws.specs.Parts.{part, part_length, part_set, within_above, within_below, within_none, within_trans, within_wider, set_within}
 use Rattle.scratch.specs.Layout.{visited_at, visited_end, visited_dists_at, pool_at}
 use Rattle.greedy.specs.Scratch.{Keeps}
 
--- xs behind the first v of a region from a to e
-module _ (words xs : List ℕ) (a e v : ℕ) (room : e ≤ length words) (fits : a + v + length xs ≤ e) where
-  abbrev at : ℕ
-  at = a + v
+-- one more of xs behind the first v + j of a region from a to e
+region_more : (words old xs : List ℕ) (a e v j at : ℕ) → at ≡ a + v + j → e ≤ length words → v + j < e - a → j < length xs
+    → take (v + j) (part a e words) ≡ old ++ take j xs → take (v + (j + 1)) (part a e (set words at (get_or xs j 0))) ≡ old ++ take (j + 1) xs
+region_more words old xs a e v j at q room h k is =
+    let x = get_or xs j 0 in
+    let m : v + (j + 1) ≡ suc (v + j) = omega arith in
+    ap (λ (i : ℕ). take i (part a e (set words at x))) m
+    ∙ ap (take (suc (v + j))) (part_set words at x a e (v + j) (omega arith) (omega arith))
+    ∙ take-suc-set (part a e words) (v + j) x (omega (arith, part_length a e words room))
+    ∙ ap (λ (l : List ℕ). l ++ (x ∷ [])) is
+    ∙ append_assoc old (take j xs) (x ∷ [])
+    ∙ ap (λ (l : List ℕ). old ++ l) (sym (take-suc xs j 0 k) ∙ ap (λ (i : ℕ). take i xs) (sym (add-one j)))
 
-  abbrev end : ℕ
-  end = at + length xs
+-- ---- the loop of `keep_each`, where the first j are kept
+pub keeps_none : (n v : ℕ) (words : List ℕ) → Keeps n v [] [] words words
+keeps_none n v words =
+    record {
+      ids_are = rw (add-zero v) (sym (append-nil (take v (part (visited_at n) (visited_end n) words))));
+      dists_are = rw (add-zero v) (sym (append-nil (take v (part (visited_dists_at n) (pool_at n) words))));
+      kept = within_none (visited_at n) (pool_at n) words;
+    }
 
-  abbrev after : List ℕ
-  after = put at end words xs
+module _ {n v : ℕ} {words₀ words : List ℕ} (ids dists : List ℕ) (j : ℕ) (s : Keeps n v (take j ids) (take j dists) words₀ words)
+    (same : length ids ≡ length dists) where
+  pub keeps_all : length ids ≤ j → Keeps n v ids dists words₀ words
+  keeps_all h = subst₂ (λ (a b : List ℕ). Keeps n v a b words₀ words) (take_all j ids h) (take_all j dists (omega arith)) s
 
-  same : length xs ≡ length (part at end words)
-  same = omega (arith, part_length at end words (omega arith))
+  -- one goes to the places `at` and `far`
+  module _ (room : pool_at n ≤ length words₀) (fits : v + length ids ≤ n) (h : j < length ids) (at far : ℕ) (at_is : at ≡ visited_at n + v + j)
+      (far-is : far ≡ visited_dists_at n + v + j) where
+    abbrev words₁ : List ℕ
+    words₁ = set words at (get_or ids j 0)
 
-  region_within : Within at end words after
-  region_within = put_within at end words xs (omega arith) (omega arith) same
+    abbrev words₂ : List ℕ
+    words₂ = set words₁ far (get_or dists j 0)
 
-  front : (w : List ℕ) → take v (part a e w) ≡ part a at w
-  front w =
-      let n : v ≡ at - a = omega arith in
-      take-take v (e - a) (drop a w) (omega arith) ∙ ap (λ (k : ℕ). take k (drop a w)) n
+    abbrev ids_of : List ℕ → List ℕ
+    ids_of w = part (visited_at n) (visited_end n) w
 
-  behind : (w : List ℕ) → take (length xs) (drop v (part a e w)) ≡ part at end w
-  behind w =
-      let n : length xs ≡ end - at = omega arith in
-      ap (take (length xs)) (drop_take v (e - a) (drop a w))
-      ∙ take-take (length xs) (e - a - v) (drop v (drop a w)) (omega arith) ∙ ap₂ (λ (k : ℕ) (l : List ℕ). take k l) n (drop-drop v a w)
+    abbrev dists_of : List ℕ → List ℕ
+    dists_of w = part (visited_dists_at n) (pool_at n) w
 
-  region_put : take (v + length xs) (part a e after) ≡ take v (part a e words) ++ xs
-  region_put =
-      take-add v (length xs) (part a e after)
-      ∙ ap₂ (λ (k l : List ℕ). k ++ l) (front after ∙ within_below at end words after region_within a at (omega arith) ∙ sym (front words))
-      (behind after ∙ put_part at end words xs (omega arith) (omega arith) same)
+    len : length (take j ids) ≡ j
+    len = length-take-le j ids (omega arith)
 
--- ids and their distances, each behind the v that their region has
-module _ (n v : ℕ) (words ids dists : List ℕ) (alike : length ids ≡ length dists) (room : pool_at n ≤ length words)
-    (fits : v + length ids ≤ n) where
-  abbrev id_at : ℕ
-  id_at = visited_at n + v
+    len₁ : length (take (j + 1) ids) ≡ j + 1
+    len₁ = length-take-le (j + 1) ids (omega arith)
 
-  abbrev dist_at : ℕ
-  dist_at = visited_dists_at n + v
+    size₁ : length words₁ ≡ length words₀
+    size₁ = length-set words at (get_or ids j 0) ∙ s.kept.size
 
-  abbrev words₁ : List ℕ
-  words₁ = put id_at (id_at + length ids) words ids
+    ids₁ : take (v + (j + 1)) (ids_of words₁) ≡ take v (ids_of words₀) ++ take (j + 1) ids
+    ids₁ =
+        region_more words (take v (ids_of words₀)) ids (visited_at n) (visited_end n) v j at at_is (omega (arith, s.kept.size)) (omega arith) h
+        (ap (λ (i : ℕ). take (v + i) (ids_of words)) (sym len) ∙ s.ids_are)
 
-  abbrev words₂ : List ℕ
-  words₂ = put dist_at (dist_at + length dists) words₁ dists
+    dists₁ : take (v + j) (dists_of words₁) ≡ take v (dists_of words₀) ++ take j dists
+    dists₁ =
+        ap (take (v + j)) (within_above at (suc at) words words₁ (set_within words at (get_or ids j 0)) (visited_dists_at n) (pool_at n) (omega arith))
+        ∙ ap (λ (i : ℕ). take (v + i) (dists_of words)) (sym len) ∙ s.dists_are
 
-  abbrev ids_of : List ℕ → List ℕ
-  ids_of w = part (visited_at n) (visited_end n) w
-
-  abbrev dists_of : List ℕ → List ℕ
-  dists_of w = part (visited_dists_at n) (pool_at n) w
-
-  within₁ : Within id_at (id_at + length ids) words words₁
-  within₁ = region_within words ids (visited_at n) (visited_end n) v (omega arith) (omega arith)
-
-  within₂ : Within dist_at (dist_at + length dists) words₁ words₂
-  within₂ = region_within words₁ dists (visited_dists_at n) (pool_at n) v (omega (arith, within₁.size)) (omega arith)
-
-  kept_each : Keeps n v ids dists words words₂
-  kept_each =
-      record {
-        ids_are =
-            ap (take (v + length ids)) (within_below dist_at (dist_at + length dists) words₁ words₂ within₂ (visited_at n) (visited_end n) (omega arith))
-            ∙ region_put words ids (visited_at n) (visited_end n) v (omega arith) (omega arith);
-        dists_are =
-            ap (λ (k : ℕ). take (v + k) (dists_of words₂)) alike
-            ∙ region_put words₁ dists (visited_dists_at n) (pool_at n) v (omega (arith, within₁.size)) (omega arith)
-            ∙ ap (λ (l : List ℕ). take v l ++ dists)
-            (within_above id_at (id_at + length ids) words words₁ within₁ (visited_dists_at n) (pool_at n) (omega arith));
-        kept =
-            within_trans (visited_at n) (pool_at n) words words₁ words₂
-            (within_wider id_at (id_at + length ids) words words₁ within₁ (visited_at n) (pool_at n) (omega arith) (omega arith))
-            (within_wider dist_at (dist_at + length dists) words₁ words₂ within₂ (visited_at n) (pool_at n) (omega arith) (omega arith));
-      }
-
-  pub kept_behind : (i d : ℕ) → i ≡ id_at → d ≡ dist_at → Keeps n v ids dists words (put d (d + length dists) (put i (i + length ids) words ids) dists)
-  kept_behind i d e q = rw (e, q) kept_each
+    pub keeps_more : Keeps n v (take (j + 1) ids) (take (j + 1) dists) words₀ (set (set words at (get_or ids j 0)) far (get_or dists j 0))
+    keeps_more =
+        record {
+          ids_are =
+              ap (λ (i : ℕ). take (v + i) (ids_of words₂)) len₁
+              ∙ ap (take (v + (j + 1)))
+              (within_below far (suc far) words₁ words₂ (set_within words₁ far (get_or dists j 0)) (visited_at n) (visited_end n) (omega arith))
+              ∙ ids₁;
+          dists_are =
+              ap (λ (i : ℕ). take (v + i) (dists_of words₂)) len₁
+              ∙ region_more words₁ (take v (dists_of words₀)) dists (visited_dists_at n) (pool_at n) v j far far-is (omega (arith, size₁)) (omega arith)
+              (omega arith) dists₁;
+          kept =
+              within_trans (visited_at n) (pool_at n) words₀ words₁ words₂
+              (within_trans (visited_at n) (pool_at n) words₀ words words₁ s.kept
+              (within_wider at (suc at) words words₁ (set_within words at (get_or ids j 0)) (visited_at n) (pool_at n) (omega arith) (omega arith)))
+              (within_wider far (suc far) words₁ words₂ (set_within words₁ far (get_or dists j 0)) (visited_at n) (pool_at n) (omega arith) (omega arith));
+        }

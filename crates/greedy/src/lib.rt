@@ -47,8 +47,13 @@ fn keep_each(words: &mut [u32], n: usize, v: usize, ids: &[u32], dists: &[u32])
 {
     let ids_at = scratch::visited_at(n) + v;
     let dists_at = scratch::visited_dists_at(n) + v;
-    words[ids_at..ids_at + ids.len()].copy_from_slice(ids);
-    words[dists_at..dists_at + dists.len()].copy_from_slice(dists);
+    // By hand: with two `copy_from_slice` a walk took up to a fifth longer, since they fetch in wide loads what was just stored word by word.
+    for (j, id) in ids.iter().enumerate() {
+        let i = ids_at + j;
+        let d = dists_at + j;
+        words[i] = *id;
+        words[d] = dists[j];
+    }
 }
 
 // A word of each 64 bytes of a row, read so that they are on their way from memory while other work is done. What is read decides nothing: it goes to `out`,

@@ -1,11 +1,19 @@
--- `keep_each`. Both lists go behind what their regions have.
+-- `keep_each`. The loop's invariant: those passed so far are kept.
 use native.Mathlib.Omega.{arith}
-use Rattle.greedy.proofs.Listing.{kept_behind}
+use lib.ListN.{length-set}
+use Rattle.greedy.proofs.Listing.{keeps_none, keeps_more, keeps_all}
 use Rattle.greedy.proofs.keep_each.Goals as goal
 
+pub loop-j-init : goal.loop-j-init
+loop-j-init c = keeps_none _ _ _
+
+pub bounds-words-d : goal.bounds-words-d
+bounds-words-d c = simp length-set (omega (arith, c.loop-j.invariant.kept.size))
+
+pub loop-j-preserved : goal.loop-j-preserved
+loop-j-preserved c =
+    keeps_more c.args.ids.now c.args.dists.now c.loop-j.j c.loop-j.invariant (omega arith) (omega arith) (omega arith) (omega arith) _ _
+    (omega arith) (omega arith)
+
 pub returns : goal.returns
-returns c =
-    let r = c.requires in
-    rw (c.copy_from_slice-2.ensures.after, c.copy_from_slice.ensures.after)
-    (kept_behind c.args.n c.args.v c.args.words.now c.args.ids.now c.args.dists.now r.3 r.1 r.2 _ _ (omega (arith, c.visited_at.ensures))
-    (omega (arith, c.visited_dists_at.ensures)))
+returns c = keeps_all c.args.ids.now c.args.dists.now c.loop-j.j c.loop-j.invariant (omega arith) (omega arith)
