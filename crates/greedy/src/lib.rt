@@ -61,8 +61,11 @@ fn keep_each(words: &mut [u32], n: usize, v: usize, ids: &[u32], dists: &[u32])
 fn touch_row(row: &[u32], out: &mut [u32])
     requires { length row.now ≤ length out.old }
 {
-    for (touched, word) in out.iter_mut().zip(row).step_by(16) {
-        *touched = *word;
+    // By hand: by `step_by(16)` a step takes some forty instructions more.
+    let mut k = 0;
+    while k < row.len() {
+        out[k] = row[k];
+        k += 16;
     }
 }
 

@@ -180,10 +180,10 @@ pub fn touch_each(dim: usize, vectors: &[u8], ids: &[u32], out: &mut [u32])
     if dim == 0 {
         return;
     }
-    for (touched, id) in out.iter_mut().zip(ids) {
+    for (j, id) in ids.iter().enumerate() {
         let first = *id as usize * dim;
         let last = first + dim - 1;
-        *touched = u32::from(vectors[first]) + u32::from(vectors[last]);
+        out[j] = u32::from(vectors[first]) + u32::from(vectors[last]);
     }
 }
 
