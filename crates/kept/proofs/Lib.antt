@@ -5,3 +5,4 @@ pub mod Admitting
 pub mod Meeting
 pub mod Closing
 pub mod Popping
+mod Opening

@@ -4,8 +4,8 @@ use mathlib.Core.List.{List, [], ◌∷◌, ◌++◌}
 use Prim.Native.Nat.{ℕ, suc, ◌+◌, ◌≤◌, ◌<◌}
 use native.Mathlib.Numerals.{add-one}
 use native.Mathlib.Omega.{arith}
-use lib.ListN.{length, get_or, take}
-use lib.Seq.{length-take-le, take-suc, take-length, take-take, get_or-take}
+use lib.ListN.{length, get_or, take, drop, length-drop}
+use lib.Seq.{drop-cons, length-take-le, take-suc, take-length, take-take, get_or-take}
 use Rattle.definition.specs.Beam.{Item, item}
 use Rattle.definition.specs.Greedy.{State, meet}
 use Rattle.laws.specs.All.{All, all_at, all_take, all_weaker}
@@ -46,6 +46,17 @@ working-still beam s s₂ dist id h w a =
   where
     st : State
     st = record { frontier = w.frontier; work = w.work; visited = []; expanded = [] }
+
+-- ---- a slice's iterator, where j of its items are taken
+module _ (xs : List ℕ) (j : ℕ) (x : ℕ) (rest : List ℕ) (e : drop j xs ≡ x ∷ rest) where
+  front_below : j < length xs
+  front_below = omega (arith, ap length e, length-drop j xs)
+
+  front_is : get_or xs j 0 ≡ x
+  front_is = cc (drop-cons xs j 0 front_below)
+
+  rest_is : drop (j + 1) xs ≡ rest
+  rest_is = rw (add-one j) (cc (drop-cons xs j 0 front_below))
 
 -- ---- the loop of `meet`: the first j were met
 pub record MetTo (beam : ℕ) (s₀ : Standing) (ids dists : List ℕ) (s : Standing) (j : ℕ) : Type 0 where
@@ -91,7 +102,7 @@ module _ (beam : ℕ) (s₀ : Standing) (ids dists : List ℕ) (same : length id
               (a.working n (meets beam st (items_of (take j ids) (take j dists))) own (m.met.working n st front k));
         }
 
-    pub met_more : All (λ (i : ℕ). i < 65536) ids → MetTo beam s₀ ids dists s₂ (j + 1)
+    met_more : All (λ (i : ℕ). i < 65536) ids → MetTo beam s₀ ids dists s₂ (j + 1)
     met_more low =
         rw (add-one j)
         (record {
@@ -99,6 +110,14 @@ module _ (beam : ℕ) (s₀ : Standing) (ids dists : List ℕ) (same : length id
           working = working-still beam s s₂ (get_or dists j 0) (get_or ids j 0) (all_at (λ (i : ℕ). i < 65536) 0 ids low j h) m.working a;
           met = met_suc;
         })
+
+  -- the iterator gave x and d, and has xs and ds left
+  pub met_next : (s : Standing) (j k : ℕ) → k ≡ j + 1 → MetTo beam s₀ ids dists s j → (x d : ℕ) (xs ds : List ℕ) → drop j ids ≡ x ∷ xs
+      → drop j dists ≡ d ∷ ds → (s₂ : Standing) → Admitted beam s s₂ d x → All (λ (i : ℕ). i < 65536) ids
+      → MetTo beam s₀ ids dists s₂ k × (xs ≡ drop k ids) × (ds ≡ drop k dists)
+  met_next s j k next m x d xs ds e q s₂ a low =
+      let own : Admitted beam s s₂ (get_or dists j 0) (get_or ids j 0) = rw (front_is dists j d ds q, front_is ids j x xs e) a in
+      rw next (met_more s j m (front_below ids j x xs e) s₂ own low, sym (rest_is ids j x xs e), sym (rest_is dists j d ds q))
 
   pub met_all : (s : Standing) (j : ℕ) → MetTo beam s₀ ids dists s j → length ids ≤ j → Met beam s₀ s ids dists
   met_all s j m h =

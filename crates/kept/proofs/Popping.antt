@@ -2,7 +2,8 @@
 -- the worst of a full work is no farther, the definition stops too.
 use mathlib.Core.Path.{◌≡◌, refl, sym, ap, ap₂, ◌∙◌, subst}
 use mathlib.Core.Logic.{inl, inr}
-use mathlib.Core.Bool.{Bool, true, false, ◌||◌, ◌&&◌, not, true≢false, false≢true}
+use Rattle.std.specs.Prelude.{None, Some}
+use mathlib.Core.Bool.{Bool, true, false, ◌||◌, ◌&&◌, not}
 use mathlib.Core.List.{List, [], ◌∷◌, ◌++◌, append-nil}
 use Prim.Native.Nat.{ℕ, suc, ◌+◌, ◌-◌, ◌%◌, ◌≤◌, ◌<◌}
 use native.Mathlib.Omega.{arith}
@@ -14,7 +15,7 @@ use Rattle.definition.specs.Beam.{Item, nobody, best, without_best, worst, beats
 use Rattle.definition.specs.Greedy.{State, popped, stops, filled}
 use Rattle.laws.specs.All.{All, all_at, all_of}
 use Rattle.laws.specs.Backwards.{rev, rev-set}
-use Rattle.laws.specs.Truth.{decide, either_or, or_neither}
+use Rattle.laws.specs.Truth.{decide, either_or}
 use Rattle.beam.specs.Keys.{none, dist_of, id_of}
 use Rattle.kept.specs.Kept.{Kept, key_of, keys_of, items, opening, Closed, Inside, Beyond}
 use Rattle.kept.specs.Keyed.{shut, open_key_lem, closed_key_lem, odd_open, even_closed, key_dist, key_id, length_keys, length_front, length-items}
@@ -179,31 +180,25 @@ module _ (n beam : ℕ) (s : Standing) (st : State) (k : Works n beam s st.front
       ∙ sym (all_walked (leb-true len d t)))
       (λ f. stop_is (leb-false len d f))
 
--- ---- the two ends of `pop`
+-- ---- the ends of `pop`
 module _ (beam : ℕ) (s : Standing) (d : ℕ) (next : Next s.keys s.work d) where
-  pub pop_none : halts_k s.keys beam s.work.len d ≡ true → Pops beam s s.keys (record { found = false; id = 0; done = d })
-  pop_none h =
-      record {
-        found_is = λ n st k. ap not (sym h ∙ halts_is n beam s st k d next);
-        same = λ e. refl;
-        id_is = λ e. absurd (false≢true e);
-        working = λ e. absurd (false≢true e);
-      }
+  pub pop_none : halts_k s.keys beam s.work.len d ≡ true → Pops beam s s.keys None
+  pop_none h = record { found_is = λ n st k. ap not (sym h ∙ halts_is n beam s st k d next); same = refl; id_is = tt; working = tt }
 
-  pub goes_on : halts_k s.keys beam s.work.len d ≡ false → d < s.work.len
-  unfolding halts_k
-  goes_on h = leb-false s.work.len d (or_neither (leb s.work.len d) _ h).0
-
-  pub pop_some : (h : halts_k s.keys beam s.work.len d ≡ false) (id : ℕ) → id ≡ id_of (get_or s.keys d 0)
-      → Pops beam s (set s.keys d (get_or s.keys d 0 - 1)) (record { found = true; id = id; done = d + 1 })
+  pub pop_some : halts_k s.keys beam s.work.len d ≡ false → d < s.work.len → (id : ℕ) → id ≡ id_of (get_or s.keys d 0)
+      → Pops beam s (set s.keys d (get_or s.keys d 0 - 1)) (Some (record { id = id; done = d + 1 }))
   unfolding popped
-  pop_some h id e =
-      let l = goes_on h in
+  pop_some h l id e =
       record {
         found_is = λ n st k. ap not (sym h ∙ halts_is n beam s st k d next);
-        same = λ e. absurd (true≢false e);
-        id_is = λ t n st k.
+        same = tt;
+        id_is = λ n st k.
             let b = best_id n beam s st k d next l in
             (e ∙ b, omega (arith, e, b, ap (λ (z : Item). z.id) (best_at n beam s st k d next l), (within n beam s st k d next l).0));
-        working = λ t n st k. works_closed n beam s st k d next l;
+        working = λ n st k. works_closed n beam s st k d next l;
       }
+
+-- all of work is walked
+pub pop_spent : (beam : ℕ) (s : Standing) → Next s.keys s.work s.work.len → Pops beam s s.keys None
+unfolding halts_k
+pop_spent beam s next = pop_none beam s s.work.len next (rw (le-leb s.work.len s.work.len (omega arith)) refl)

@@ -1,5 +1,6 @@
 -- What 256 keys hold of a walk's work and frontier, and what each function does to them.
-use Rattle.std.specs.Prelude.{◌≡◌, Bool, true, false, ◌||◌, ◌&&◌, not, cond, List, [], ◌∷◌, ◌++◌, map, ℕ, ◌*◌, ◌-◌, ◌≤◌, ◌<◌, ◌%◌, leb, ltb, length, get_or, take, drop, replicate}
+use Rattle.std.specs.Prelude.{◌≡◌, Bool, ◌||◌, ◌&&◌, not, cond, List, [], ◌∷◌, ◌++◌, map, ℕ, ◌*◌, ◌-◌, ◌≤◌, ◌<◌, ◌%◌, leb, ltb, length, get_or, take, drop, replicate}
+use Rattle.std.specs.Prelude.{Option, MatchOption, IfNone, IfSome, is_some}
 use Rattle.definition.specs.Beam.{Item, item, worst, best}
 use Rattle.definition.specs.Greedy.{State, meet, stops, popped}
 use Rattle.laws.specs.All.{All}
@@ -88,14 +89,18 @@ pub record Next (keys : List ℕ) (w : Work) (r : ℕ) : Type 0 where
   pub walked : (j : ℕ) → w.done ≤ j → j < r → get_or keys j 0 % 2 ≡ 0
   pub odd : r < w.len → get_or keys r 0 % 2 ≡ 1
 
--- a pop finds nothing where the definition stops; else what it finds is the best of the frontier, which leaves it
-pub record Pops (beam : ℕ) (before : Standing) (keys : List ℕ) (r : Popped) : Type 0 where
-  pub found_is : (n : ℕ) (st : State) → Works n beam before st.frontier st.work → r.found ≡ not (stops beam st)
-  pub same : r.found ≡ false → keys ≡ before.keys
-  pub id_is : r.found ≡ true → (n : ℕ) (st : State) → Works n beam before st.frontier st.work
-      → (r.id ≡ (best st.frontier).id) × (r.id < n)
-  pub working : r.found ≡ true → (n : ℕ) (st : State) → Works n beam before st.frontier st.work
-      → Works n beam (standing keys (works before.work.len r.done before.work.bound)) (popped st).frontier (popped st).work
+-- all are walked, or the best that is not stands at r
+abbrev pub Opens : List ℕ → Work → Option ℕ → Type 0
+Opens keys w r = MatchOption r (Next keys w w.len) (λ d. (d < w.len) × Next keys w d)
+
+-- a pop finds nothing where the definition stops, and then no key differs; else what it finds is the best of the frontier, which leaves it
+pub record Pops (beam : ℕ) (before : Standing) (keys : List ℕ) (r : Option Popped) : Type 0 where
+  pub found_is : (n : ℕ) (st : State) → Works n beam before st.frontier st.work → is_some r ≡ not (stops beam st)
+  pub same : IfNone r (keys ≡ before.keys)
+  pub id_is : IfSome r (λ (p : Popped). (n : ℕ) (st : State) → Works n beam before st.frontier st.work
+      → (p.id ≡ (best st.frontier).id) × (p.id < n))
+  pub working : IfSome r (λ (p : Popped). (n : ℕ) (st : State) → Works n beam before st.frontier st.work
+      → Works n beam (standing keys (works before.work.len p.done before.work.bound)) (popped st).frontier (popped st).work)
 
 -- ---- what the keys tell at the end: they rise, and hold the work, the best first
 pub record Tells (keys : List ℕ) (len : ℕ) (work : List Item) : Type 0 where

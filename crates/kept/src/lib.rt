@@ -4,7 +4,7 @@
 
 ghost use Rattle.std.specs.Prelude.{◌≡◌, ℕ, ◌+◌, ◌≤◌, ◌<◌, length};
 ghost use Rattle.laws.specs.All.{All};
-ghost use Rattle.kept.specs.Says.{no_work, bound_k, halts_k, standing, Working, Admitted, Met, Next, Pops};
+ghost use Rattle.kept.specs.Says.{no_work, bound_k, halts_k, standing, Working, Admitted, Met, Opens, Pops};
 
 // How many items work has, how many of these, the best, are walked, and what the key of a further item must be below to come in.
 #[derive(Clone, Copy)]
@@ -14,10 +14,9 @@ pub struct Work {
     pub bound: u64,
 }
 
-// The best that was open: whether there is one to walk, its id, and how many are walked with it.
+// The best that was open: its id, and how many are walked with it.
 #[derive(Clone, Copy)]
 pub struct Popped {
-    pub found: bool,
     pub id: u32,
     pub done: usize,
 }
@@ -59,7 +58,7 @@ fn admit(keys: &mut [u64], beam: usize, w: Work, dist: u32, id: u32) -> Work
         let len = last + 1;
         return Work {
             len,
-            done: laws::least(w.done, at),
+            done: w.done.min(at),
             bound: bound_of(keys, len, beam),
         };
     }
@@ -74,37 +73,26 @@ pub fn meet(keys: &mut [u64], beam: usize, w: Work, ids: &[u32], dists: &[u32]) 
     ensures { Met beam (standing keys.old w) (standing keys.new result) ids.now dists.now }
 {
     let mut s = w;
-    let mut j = 0;
-    while j < ids.len() {
-        s = admit(keys, beam, s, dists[j], ids[j]);
-        j += 1;
+    for (id, dist) in ids.iter().zip(dists) {
+        s = admit(keys, beam, s, *dist, *id);
     }
     s
 }
 
-// How many of the best are walked, once those that were are passed: from `done` on, up to one that is not.
-fn next(keys: &[u64], w: Work) -> usize
+// The place of the best that is open, if there is one. The best `done` are known to be walked.
+fn next(keys: &[u64], w: Work) -> Option<usize>
     requires { (w.len ≤ length keys.now) × (w.done ≤ w.len) }
-    ensures { Next keys.now w result }
+    ensures { Opens keys.now w result }
 {
-    let mut d = w.done;
-    while d < w.len {
-        if keys[d] % 2 != 0 {
-            break;
-        }
-        d += 1;
-    }
-    d
+    let open = keys[w.done..w.len].iter().position(|key| *key % 2 != 0)?;
+    Some(w.done + open)
 }
 
-// All of work is walked; or work has at least beam items, and the best that is not walked is not strictly nearer than the worst.
+// Work has at least beam items, and the best that is open is not strictly nearer than the worst.
 fn halts(keys: &[u64], beam: usize, w: Work, d: usize) -> bool
-    requires { w.len ≤ length keys.now }
+    requires { (w.len ≤ length keys.now) × (d < w.len) }
     ensures { result ≡ halts_k keys.now beam w.len d }
 {
-    if w.len <= d {
-        return true;
-    }
     if w.len < beam {
         return false;
     }
@@ -113,34 +101,26 @@ fn halts(keys: &[u64], beam: usize, w: Work, d: usize) -> bool
 }
 
 // The best that is open is closed, if the walk goes on: its row is to be walked.
-pub fn pop(keys: &mut [u64], beam: usize, w: Work) -> Popped
+pub fn pop(keys: &mut [u64], beam: usize, w: Work) -> Option<Popped>
     requires { Working beam (standing keys.old w) }
     ensures { Pops beam (standing keys.old w) keys.new result }
 {
-    let d = next(keys, w);
+    let d = next(keys, w)?;
     if halts(keys, beam, w, d) {
-        return Popped {
-            found: false,
-            id: 0,
-            done: d,
-        };
+        return None;
     }
     let key = keys[d];
     keys[d] = key - 1;
-    Popped {
-        found: true,
+    Some(Popped {
         id: beam::id_of(key),
         done: d + 1,
-    }
+    })
 }
 
-// The id of the best that is open, or 0 if there is none: the row that is walked next, as far as work is known. Nothing but speed hangs on it.
-pub fn ahead(keys: &[u64], w: Work) -> u32
+// The id of the best that is open: the row that is walked next, as far as work is known. Nothing but speed hangs on it.
+pub fn ahead(keys: &[u64], w: Work) -> Option<u32>
     requires { (w.len ≤ length keys.now) × (w.done ≤ w.len) }
 {
-    let d = next(keys, w);
-    if d < w.len {
-        return beam::id_of(keys[d]);
-    }
-    0
+    let d = next(keys, w)?;
+    Some(beam::id_of(keys[d]))
 }

@@ -14,14 +14,12 @@ fn run_end(keys: &[u64], first: usize, len: usize) -> usize
     ensures { RunEnd keys.now len first result }
 {
     let dist = beam::dist_of(keys[first]);
-    let mut end = first + 1;
-    while end < len {
+    for end in first + 1..len {
         if beam::dist_of(keys[end]) != dist {
-            break;
+            return end;
         }
-        end += 1;
     }
-    end
+    len
 }
 
 // The places from `first` to `last`, with the run that ends at `end` read from there: its highest id first.
@@ -31,13 +29,11 @@ fn list_run(keys: &[u64], first: usize, end: usize, last: usize, ids: &mut [u32]
     ensures { RunListed keys.now first end last
         (pairs ids.old dists.old) (pairs ids.new dists.new) }
 {
-    let mut i = first;
-    while i < last {
+    for i in first..last {
         let at = first + end - 1 - i;
         let key = keys[at];
         ids[i] = beam::id_of(key);
         dists[i] = std::num::nearest_u32_to_f32(beam::dist_of(key));
-        i += 1;
     }
 }
 
@@ -52,7 +48,7 @@ pub fn list_answers(keys: &[u64], len: usize, count: usize, ids: &mut [u32], dis
     let mut first = 0;
     while first < count {
         let end = run_end(keys, first, len);
-        list_run(keys, first, end, laws::least(end, count), ids, dists);
+        list_run(keys, first, end, end.min(count), ids, dists);
         first = end;
     }
 }
@@ -66,11 +62,8 @@ pub fn list_mirrored(keys: &[u64], n: usize, count: usize, ids: &mut [u32], dist
         (pairs ids.old dists.old) (pairs ids.new dists.new) }
 {
     let last = (n - 1) as u32;
-    let mut i = 0;
-    while i < count {
-        let key = keys[i];
-        ids[i] = last - beam::id_of(key);
-        dists[i] = std::num::nearest_u32_to_f32(beam::dist_of(key));
-        i += 1;
+    for (i, key) in keys[..count].iter().enumerate() {
+        ids[i] = last - beam::id_of(*key);
+        dists[i] = std::num::nearest_u32_to_f32(beam::dist_of(*key));
     }
 }

@@ -23,29 +23,16 @@ pub fn next_epoch(epoch: u32) -> u32
     epoch + 1
 }
 
-// The place of a word's mark: n for what is no entry.
-fn mark_of(n: u32, word: u32) -> u32
-    ensures { result ≡ mark_of n word }
-{
-    if word < n { word } else { n }
-}
-
-// 0 if a mark is the epoch, else 1: a number, so that nothing branches on it.
-fn is_new(mark: u32, epoch: u32) -> usize
-    ensures { (result ≡ new_of mark epoch) × (result ≤ 1) }
-{
-    if mark == epoch { 0 } else { 1 }
-}
-
-// One word of a row: its mark is set, and it is written behind the `count` new ids. It is one of them where it was not marked.
+// One word of a row: its mark is set, that of n where it is no entry, and it is written behind the `count` new ids. It is one of them where it was not
+// marked: that is added as a number, so that nothing branches on it.
 fn note(words: &mut [u32], n: u32, epoch: u32, word: u32, fresh: &mut [u32], count: usize) -> usize
     requires marked { Marked n epoch words.old }
     requires count_in_bounds { count < length fresh.old }
     ensures { Notes n epoch word words.old words.new fresh.old fresh.new count result }
 {
-    let entry = mark_of(n, word);
+    let entry = word.min(n);
     let i = entry as usize;
-    let new = is_new(words[i], epoch);
+    let new = usize::from(words[i] != epoch);
     words[i] = epoch;
     fresh[count] = entry;
     count + new
@@ -58,10 +45,8 @@ pub fn gather(words: &mut [u32], n: u32, epoch: u32, row: &[u32], fresh: &mut [u
     ensures { Gathers n epoch words.old words.new row.now fresh.new result }
 {
     let mut count = 0;
-    let mut k = 0;
-    while k < row.len() {
-        count = note(words, n, epoch, row[k], fresh, count);
-        k += 1;
+    for word in row {
+        count = note(words, n, epoch, *word, fresh, count);
     }
     count
 }

@@ -14,11 +14,8 @@ fn score(n: usize, dim: usize, vectors: &[u8], pivots: &[u32], i: usize) -> f32
     ensures { result ≡ score (between dim vectors.now) pivots.now i }
 {
     let mut total: f32 = 0.0;
-    let mut j = 0;
-    while j < pivots.len() {
-        let p = pivots[j] as usize;
-        total = total + metric::between(dim, vectors, i, p) as f32;
-        j += 1;
+    for p in pivots {
+        total += metric::between(dim, vectors, i, *p as usize) as f32;
     }
     total
 }
@@ -30,14 +27,12 @@ fn leader(n: usize, dim: usize, vectors: &[u8], pivots: &[u32]) -> usize
 {
     let mut id = 0;
     let mut least = score(n, dim, vectors, pivots, 0);
-    let mut i = 1;
-    while i < n {
+    for i in 1..n {
         let s = score(n, dim, vectors, pivots, i);
         if s < least {
             id = i;
             least = s;
         }
-        i += 1;
     }
     id
 }

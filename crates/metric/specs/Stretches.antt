@@ -1,5 +1,6 @@
 -- What a stretch of two vectors adds to their distance, as the loops go through them, and the sixteen sums that it is added to.
-use Rattle.std.specs.Prelude.{◌≡◌, refl, List, [], ◌∷◌, ℕ, zero, suc, ◌+◌, ◌≤◌, ◌<◌, length, get_or, set, drop, replicate}
+use Rattle.std.specs.Prelude.{◌≡◌, refl, List, [], ◌∷◌, ℕ, zero, suc, ◌+◌, ◌≤◌, ◌<◌, length, get_or, set, drop, replicate, sum}
+use Rattle.std.specs.List.{fold}
 use Rattle.std.proofs.Common.{sym, ◌∙◌, subst, le_refl, add-zero, zero-add, add-one, arith, length-set, length-drop, drop_of_length-le, drop-cons}
 use Rattle.definition.specs.Lists.{total}
 use Rattle.definition.specs.Metric.{squared, summed, metric}
@@ -22,7 +23,7 @@ pub record Sixteen (a b : List ℕ) (at d : ℕ) (sums : List ℕ) : Type 0 wher
   pub sixteen : length sums ≡ 16
   pub is : total sums + metric (drop at a) (drop at b) ≡ d
 
--- ---- sums: one that grows, none more than all, those from a place on
+-- ---- sums: one that grows, none more than all
 pub total_more : (sums : List ℕ) (j x : ℕ) → j < length sums → total (set sums j (get_or sums j 0 + x)) ≡ total sums + x
 unfolding total
 total_more [] j x h = absurd (omega arith)
@@ -35,13 +36,14 @@ sum-total [] j = omega arith
 sum-total (s ∷ sums) zero = omega arith
 sum-total (s ∷ sums) (suc j) = let k = sum-total sums j in omega arith
 
-pub total_from : (sums : List ℕ) (j : ℕ) → j < length sums → get_or sums j 0 + total (drop (j + 1) sums) ≡ total (drop j sums)
+-- that total is the library's sum
+fold_total : (a : ℕ) (sums : List ℕ) → fold ◌+◌ a sums ≡ a + total sums
 unfolding total
-total_from sums j h = rw (add-one j, drop-cons sums j 0 h)
+fold_total a [] = omega arith
+fold_total a (s ∷ sums) = omega (arith, fold_total (a + s) sums)
 
-pub total_end : (sums : List ℕ) (j : ℕ) → length sums ≤ j → total (drop j sums) ≡ 0
-unfolding total
-total_end sums j h = rw (drop_of_length-le sums h)
+pub sum_is_total : (sums : List ℕ) → sum sums ≡ total sums
+sum_is_total sums = fold_total 0 sums ∙ zero-add (total sums)
 
 -- ---- stretches of two vectors: an empty one, one sample, two that meet, and all
 pub adds_none : (a b : List ℕ) (i : ℕ) → Adds a b i i 0

@@ -11,24 +11,6 @@ ghost use Rattle.metric.specs.Stretches.{Stretch, Adds, Sixteen};
 
 use definition::{Answer, Refusal};
 
-fn higher(x: u8, y: u8) -> u8
-    ensures { result ≡ max x y }
-{
-    if x < y {
-        return y;
-    }
-    x
-}
-
-fn lower(x: u8, y: u8) -> u8
-    ensures { result ≡ min x y }
-{
-    if x < y {
-        return x;
-    }
-    y
-}
-
 // What the higher of two samples is measured from: the lower, or 255 where it is that itself, so that it adds nothing.
 fn ground(high: u8, low: u8) -> u8
     ensures { result ≡ cond (saturated high) 255 low }
@@ -43,18 +25,18 @@ fn ground(high: u8, low: u8) -> u8
 fn squared(x: u8, y: u8) -> u32
     ensures { result ≡ squared x y }
 {
-    let high = higher(x, y);
-    let low = lower(x, y);
+    let high = x.max(y);
+    let low = x.min(y);
     let gap = high - ground(high, low);
-    gap as u32 * gap as u32
+    u32::from(gap) * u32::from(gap)
 }
 
 // The same of a sample that is looked at by itself. There the processor can choose between numbers of 32 bits, but between bytes only by a branch.
 fn squared_alone(x: u8, y: u8) -> u32
     ensures { result ≡ squared x y }
 {
-    let high = higher(x, y) as u32;
-    let gap = high - lower(x, y) as u32;
+    let high = u32::from(x.max(y));
+    let gap = high - u32::from(x.min(y));
     if high == 255u32 {
         return 0;
     }
@@ -68,26 +50,10 @@ fn add_sixteen(sums: &mut [u32; 16], a: &[u8], b: &[u8], at: usize)
     ensures { Sixteen a.now b.now (at + 16)
         (total sums.old + metric (drop at a.now) (drop at b.now)) sums.new }
 {
-    let mut j = 0;
-    while j < 16 {
+    for j in 0..16 {
         let k = at + j;
-        sums[j] = sums[j] + squared(a[k], b[k]);
-        j += 1;
+        sums[j] += squared(a[k], b[k]);
     }
-}
-
-// The sixteen sums added up.
-fn total(sums: &[u32; 16]) -> u32
-    requires { (length sums.now ≡ 16) × (total sums.now ≤ farthest) }
-    ensures { result ≡ total sums.now }
-{
-    let mut sum: u32 = 0;
-    let mut j = 0;
-    while j < 16 {
-        sum += sums[j];
-        j += 1;
-    }
-    sum
 }
 
 // What the samples from `from` up to `to` add, sixteen at a time. No turn goes beyond `to` as it is; with `least` the compiler does not see how many turns
@@ -101,9 +67,9 @@ fn sixteens(a: &[u8], b: &[u8], from: usize, to: usize) -> u32
     let mut i = from;
     while i < to {
         add_sixteen(&mut sums, a, b, i);
-        i = laws::least(i + 16, to);
+        i = (i + 16).min(to);
     }
-    total(&sums)
+    sums.iter().sum()
 }
 
 // What eight samples from `at` on add.
@@ -112,11 +78,9 @@ fn eight(a: &[u8], b: &[u8], at: usize) -> u32
     ensures { Adds a.now b.now at (at + 8) result }
 {
     let mut sum: u32 = 0;
-    let mut j = 0;
-    while j < 8 {
+    for j in 0..8 {
         let k = at + j;
         sum += squared(a[k], b[k]);
-        j += 1;
     }
     sum
 }
@@ -127,10 +91,8 @@ fn few(a: &[u8], b: &[u8], from: usize, to: usize) -> u32
     ensures { Adds a.now b.now from to result }
 {
     let mut sum: u32 = 0;
-    let mut i = from;
-    while i < to {
+    for i in from..to {
         sum += squared_alone(a[i], b[i]);
-        i += 1;
     }
     sum
 }
@@ -201,10 +163,8 @@ pub fn from_query_each(dim: usize, vectors: &[u8], query: &[u8], ids: &[u32], di
     requires ids_len { length ids.now ≡ length dists.old }
     ensures { Distances (from_query dim vectors.now query.now) ids.now dists.new }
 {
-    let mut k = 0;
-    while k < ids.len() {
-        dists[k] = from_query(dim, vectors, query, ids[k] as usize);
-        k += 1;
+    for (k, id) in ids.iter().enumerate() {
+        dists[k] = from_query(dim, vectors, query, *id as usize);
     }
 }
 
@@ -217,12 +177,10 @@ pub fn touch_each(dim: usize, vectors: &[u8], ids: &[u32], out: &mut [u32])
     if dim == 0 {
         return;
     }
-    let mut j = 0;
-    while j < ids.len() {
-        let first = ids[j] as usize * dim;
+    for (j, id) in ids.iter().enumerate() {
+        let first = *id as usize * dim;
         let last = first + dim - 1;
-        out[j] = vectors[first] as u32 + vectors[last] as u32;
-        j += 1;
+        out[j] = u32::from(vectors[first]) + u32::from(vectors[last]);
     }
 }
 

@@ -2,7 +2,7 @@
 // table whose words nobody looks at before.
 #![tactic(auto)]
 
-ghost use Rattle.std.specs.Prelude.{◌≡◌, [], ◌+◌, ◌≤◌, ◌<◌, max, length};
+ghost use Rattle.std.specs.Prelude.{◌≡◌, [], ◌+◌, ◌≤◌, ◌<◌, length};
 ghost use Rattle.definition.specs.Outcome.{SearchMeets, cleaned_call, LookupMeets, fit_out};
 ghost use Rattle.theory.specs.build.Walks.{epoch_end};
 ghost use Rattle.scratch.specs.Lent.{lent};
@@ -16,16 +16,6 @@ ghost use Rattle.search.specs.Statement.{out_of, answer_of, Searched};
 
 use definition::Answer;
 use greedy::Plan;
-
-// At least 1.
-fn raised(beam: usize) -> usize
-    ensures { result ≡ max beam 1 }
-{
-    if beam == 0 {
-        return 1;
-    }
-    beam
-}
 
 // What a walk gives: the epoch that it came to, how many answers there are, and how many entries it expanded and measured.
 #[derive(Clone, Copy)]
@@ -61,7 +51,7 @@ pub fn walk_answers(
         epoch words.new (pairs ids.new dists.new) result }
 {
     let mut keys = [beam::NONE; 256];
-    let most = raised(beam);
+    let most = beam.max(1);
     let p = Plan {
         n,
         dim,
@@ -70,7 +60,7 @@ pub fn walk_answers(
         keep: false,
     };
     let walked = greedy::greedy(words, &mut keys, vectors, query, table, p, epoch, start);
-    let count = laws::least(k, walked.work);
+    let count = k.min(walked.work);
     listing::list_answers(&keys, walked.work, count, ids, dists);
     Found {
         epoch: walked.epoch,

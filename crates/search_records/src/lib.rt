@@ -13,13 +13,12 @@ fn copy_run(records: &mut [Candidate], ids: &[u32], dists: &[f32], count: usize)
     requires { (count ≤ length records.old) × ((count ≤ length ids.now) × (count ≤ length dists.now)) }
     ensures { records.new ≡ copied ids.now dists.now count records.old }
 {
-    let mut i = 0;
-    while i < count {
+    // By hand: zipped with `records.iter_mut()` it does not prove, since nothing is known then of what the loop wrote.
+    for i in 0..count {
         records[i] = Candidate {
             id: ids[i],
             distance: dists[i],
         };
-        i += 1;
     }
 }
 

@@ -8,7 +8,7 @@ use Rattle.greedy.proofs.from_start.Goals as goal
 pub returns-then-p-eq0 : goal.returns-then-p-eq0
 returns-then-p-eq0 c =
     let none = c.if-p-eq0.true in
-    subst (Ends _ _ _ _ _ _) (sym (from_none _ _ _ _ none)) (start_ends _ _ _ c.step-s.ensures)
+    rw c.outcome.ensures (subst (Ends _ _ _ _ _ _) (sym (from_none _ _ _ _ none)) (start_ends _ _ _ c.step-s.ensures))
 
 pub walk-requires : goal.walk-requires
 walk-requires c =

@@ -1,45 +1,36 @@
--- `walk`. The loop's invariant: `left` steps of the definition, from the state where the scratch is, lead where the whole walk leads.
+-- `walk`. The loop's invariant: what is left of the definition's n steps, from the state where the scratch is, leads where the whole walk leads.
 use native.Mathlib.Omega.{arith}
 use borrow.Author.Rules.{rules}
 use Rattle.greedy.proofs.Expanding.{working}
 use Rattle.greedy.proofs.Runs.{run-start, run_spent, run_halt, pop_ready, pop_live, pop_id, run_step}
 use Rattle.greedy.proofs.walk.Goals as goal
-use Rattle.greedy.proofs.walk.Goals.{else-loop-left-test, then-loop-left-test+then-not-next}
 
-pub loop-left-init : goal.loop-left-init
-loop-left-init c = (omega arith, omega arith, omega arith, run-start _ _ c.requires.ready c.requires.live)
+pub loop-expanded-init : goal.loop-expanded-init
+loop-expanded-init c = (omega arith, omega arith, omega arith, run-start _ _ c.requires.ready c.requires.live)
 
-pub pop-next-requires : goal.pop-next-requires
-pop-next-requires c = working c.loop-left.invariant.3.live
+pub pop-requires : goal.pop-requires
+pop-requires c = working c.loop-expanded.invariant.3.live
+
+-- nothing is left to walk
+pub returns-in_default : goal.returns-in_default
+returns-in_default c = rw c.outcome.ensures (run_halt c.loop-expanded.invariant.3 c.in_default.ensures)
 
 pub step-s-requires : goal.step-s-requires
 step-s-requires c =
-    let some = c.if-not-next.false in
-    let run = c.loop-left.invariant.3 in
+    let run = c.loop-expanded.invariant.3 in
+    let pop = c.in-Some.ensures in
     record {
-      ready = pop_ready run c.pop-next.ensures some;
-      live = pop_live run c.pop-next.ensures some;
+      ready = pop_ready run pop;
+      live = pop_live run pop;
       ground = c.requires.ground;
-      id_lt_n = (pop_id run c.pop-next.ensures some, omega arith, omega arith);
+      id_lt_n = (pop_id run pop, omega arith, omega arith);
     }
 
-pub loop-left-smaller : goal.loop-left-smaller
-loop-left-smaller c = omega arith
+pub loop-expanded-preserved : goal.loop-expanded-preserved
+loop-expanded-preserved c =
+    let run = c.loop-expanded.invariant.3 in
+    (search rules, search rules, search rules, run_step run c.in-Some.ensures (omega arith) c.step-s.ensures)
 
-pub loop-left-preserved : goal.loop-left-preserved
-loop-left-preserved c =
-    let some = c.if-not-next.false in
-    let run = c.loop-left.invariant.3 in
-    (search rules, search rules, search rules, run_step run c.pop-next.ensures some c.loop-left-test.true c.step-s.ensures)
-
-pub overflow_sub-expanded : goal.overflow_sub-expanded
-overflow_sub-expanded c = c.loop-left.invariant.3.fuel
-
--- the fuel is spent, or nothing is left to walk
+-- the fuel is spent
 pub returns : goal.returns
-returns c =
-    let run = c.loop-left.invariant.3 in
-    elim c.loop-left-test.branch [
-      | else-loop-left-test w ↦ rw w.keys-is (run_spent run (omega (arith, w.loop-left-test.false)))
-      | then-loop-left-test+then-not-next w ↦ rw w.keys-is (run_halt run w.pop-next.ensures w.if-not-next.true)
-    ]
+returns c = rw c.outcome-2.ensures (run_spent c.loop-expanded.invariant.3 (omega arith))

@@ -61,7 +61,7 @@ pub returns-then-key-w : goal.returns-then-key-w
 returns-then-key-w c =
     let p = goal.at.returns-then-key-w c in
     let a = c.args in
-    rw (c.bound_of.ensures, c.least.ensures)
+    rw (c.bound_of.ensures, c.min.ensures)
     (admit_in a.beam (standing a.keys.now a.w) a.dist a.id (below p.Then-key-w) c.if-w-beam.last (place p.Joined-w-beam) c.requires.working
     c.put-at.result c.put-at.new.keys (rw c.key_of-key.ensures at c.put-at.ensures))
 

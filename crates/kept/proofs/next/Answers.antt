@@ -1,31 +1,21 @@
--- `next`. The loop's invariant: each key from `done` on up to d is even, so its row was walked.
-use mathlib.Core.Path.{◌≡◌}
-use Prim.Native.Nat.{ℕ, ◌≤◌, ◌%◌}
-use native.Mathlib.Omega.{arith}
-use borrow.Author.Count.{below_more}
-use lib.ListN.{get_or}
+-- `next`. Where no key is odd all of work is walked, else the first that is odd is the best that is open.
+use Rattle.std.proofs.Common.{◌≡◌, ℕ, ◌%◌, rules, tests}
+use Rattle.std.proofs.lemmas.Iterator.{IsFirst-from_position, YieldsList-from_slice}
+use Rattle.kept.proofs.Opening.{open_none, open_some}
 use Rattle.kept.proofs.next.Goals as goal
 
-pub loop-d-init : goal.loop-d-init
-loop-d-init c = (omega arith, omega arith, λ j h l. absurd (omega arith))
+pub returns-in_err-open : goal.returns-in_err-open
+returns-in_err-open c =
+    let first =
+    IsFirst-from_position _ _ _ (λ (x : ℕ). x % 2 ≡ 0 → ⊥) (λ (x : ℕ). x % 2 ≡ 0) c.position.ensures.ran
+    (YieldsList-from_slice _ c.iter.ensures.rest) (λ x q k. search (rules, tests)) (λ x q k. search (rules, tests)) in
+    let none = rw c.in_err-open.was at first in
+    rw c.from_residual.ensures (open_none _ c.args.w c.requires.0 c.requires.1 none)
 
-pub loop-d-smaller : goal.loop-d-smaller
-loop-d-smaller c = omega arith
-
-pub loop-d-preserved : goal.loop-d-preserved
-loop-d-preserved c =
-    let w = c.args.w in
-    let keys = c.args.keys.now in (
-      omega arith,
-      omega arith,
-      λ j h g.
-          below_more (λ (k : ℕ). w.done ≤ k → get_or keys k 0 % 2 ≡ 0) c.loop-d.d (λ k b a. c.loop-d.invariant.2 k a b) (λ a. c.if-keys-d-ne0.false) j g h,
-    )
-
-pub returns-after-loop-d : goal.returns-after-loop-d
-returns-after-loop-d c = record { from = omega arith; to = omega arith; walked = c.loop-d.invariant.2; odd = λ h. absurd (omega arith) }
-
-pub returns-then-keys-d-ne0 : goal.returns-then-keys-d-ne0
-returns-then-keys-d-ne0 c =
-    let l = c.loop-d in
-    record { from = omega arith; to = omega arith; walked = l.invariant.2; odd = λ h. omega (arith, c.if-keys-d-ne0.true) }
+pub returns : goal.returns
+returns c =
+    let first =
+    IsFirst-from_position _ _ _ (λ (x : ℕ). x % 2 ≡ 0 → ⊥) (λ (x : ℕ). x % 2 ≡ 0) c.position.ensures.ran
+    (YieldsList-from_slice _ c.iter.ensures.rest) (λ x q k. search (rules, tests)) (λ x q k. search (rules, tests)) in
+    let some = rw c.in_ok-open.was at first in
+    open_some _ c.args.w c.requires.0 c.requires.1 c.in_ok-open.open some.0 (some.1 0) some.2

@@ -19,7 +19,7 @@ loop-first-preserved c =
     let up = c.requires.rising in
     let size = ranked_length a.keys.now a.len up (omega arith) a.count (omega arith) in (
       parts_end a.keys.now a.len up (omega arith) run,
-      listed_at c.least.ensures
+      listed_at c.min.ensures
           (c.list_run.ensures.goes_on (ranked a.count (items_in a.keys.now a.len)) (pairs a.ids.now a.dists.now)
           (λ i h k. ranked_at a.keys.now a.len up (omega arith) a.count (omega arith) c.loop-first.invariant.0 run i h (omega arith) (omega arith))
           (omega arith) (omega arith) (omega arith) (listed_at (omega arith) c.loop-first.invariant.1)),

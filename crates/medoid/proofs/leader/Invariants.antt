@@ -1,5 +1,4 @@
 -- `leader` meets its contract. The invariant: the leader of the entries before i, against those from i on, leads to the medoid.
-use Rattle.std.proofs.Common.{◌-◌}
 use Rattle.definition.specs.Metric.{between}
 use Rattle.definition.specs.Medoid.{score, medoid}
 use Rattle.medoid.specs.Turns.{Leading}
@@ -7,6 +6,3 @@ use Rattle.medoid.proofs.leader.Given as goal
 
 abbrev pub invariant-loop-i : goal.invariant-loop-i
 invariant-loop-i l = Leading (score (between l.dim l.vectors) l.pivots) (medoid (between l.dim l.vectors) l.pivots l.n) l.n l.id l.least l.i
-
-abbrev pub decreases-loop-i : goal.decreases-loop-i
-decreases-loop-i l = l.n - l.i

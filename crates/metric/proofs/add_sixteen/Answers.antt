@@ -17,14 +17,12 @@ turn a b at j d sums x l h few e p =
 pub overflow_add-sums : goal.overflow_add-sums
 overflow_add-sums c =
     let p = c.requires.stretch in
-    let t = turn _ _ c.args.at c.loop-j.j _ c.loop-j.sums _ p.alike (omega (arith, p.inside)) (omega arith) c.squared.ensures c.loop-j.invariant.1 in
-    let more = total_more c.loop-j.sums c.loop-j.j c.squared.result (omega (arith, c.loop-j.invariant.1.sixteen)) in
+    let t = turn _ _ c.args.at c.loop-j.j _ c.loop-j.sums _ p.alike (omega (arith, p.inside)) (omega arith) c.squared.ensures c.loop-j.invariant in
+    let more = total_more c.loop-j.sums c.loop-j.j c.squared.result (omega (arith, c.loop-j.invariant.sixteen)) in
     let least = sum-total c.loop-j.sums c.loop-j.j in
     omega (arith, t.is, c.requires.sums_len.1)
 
 pub loop-j-preserved : goal.loop-j-preserved
 loop-j-preserved c =
-    let p = c.requires.stretch in (
-      omega arith,
-      turn _ _ c.args.at c.loop-j.j _ c.loop-j.sums _ p.alike (omega (arith, p.inside)) (omega arith) c.squared.ensures c.loop-j.invariant.1,
-    )
+    let p = c.requires.stretch in
+    turn _ _ c.args.at c.loop-j.j _ c.loop-j.sums _ p.alike (omega (arith, p.inside)) (omega arith) c.squared.ensures c.loop-j.invariant

@@ -8,11 +8,9 @@ pub overflow_add-sum : goal.overflow_add-sum
 overflow_add-sum c =
     let more =
     adds_more _ _ _ _ (c.args.at + (c.loop-j.j + 1)) _ _ c.requires.alike (omega (arith, c.requires.inside)) (omega arith) c.squared-sum.ensures
-    c.loop-j.invariant.1 in
+    c.loop-j.invariant in
     omega (arith, adds_small _ _ _ _ _ (λ k. (c.type_inv.a k).fits) (λ k. (c.type_inv.b k).fits) c.requires.few more)
 
 pub loop-j-preserved : goal.loop-j-preserved
-loop-j-preserved c = (
-  omega arith,
-  adds_more _ _ _ _ _ _ _ c.requires.alike (omega (arith, c.requires.inside)) (omega arith) c.squared-sum.ensures c.loop-j.invariant.1,
-)
+loop-j-preserved c =
+    adds_more _ _ _ _ _ _ _ c.requires.alike (omega (arith, c.requires.inside)) (omega arith) c.squared-sum.ensures c.loop-j.invariant

@@ -22,7 +22,7 @@ greedy-walked-requires c =
     let walkable = s.requires.walkable in
     let marks = s.requires.epoch_bound in
     record {
-      epoch_bound = (marks.0, start_room (asked s) walkable s.args.table.now refl _ marks.1 _ c.raised-most.ensures);
+      epoch_bound = (marks.0, start_room (asked s) walkable s.args.table.now refl _ marks.1 _ c.max-most.ensures);
       keys_value = refl;
       ground = start_ground (asked s) walkable s.args.table.now refl _;
       start_lt_n = walkable.start_in;
@@ -32,13 +32,13 @@ pub list_answers-requires : goal.list_answers-requires
 unfolding cleaned_call
 list_answers-requires c =
     let s = (goal.at.list_answers-requires c).Start in
-    let room = list_room (asked s) s.requires.walkable s.args.table.now refl _ s.requires.epoch_bound.1 _ c.raised-most.ensures
-    _ _ _ c.greedy-walked.ensures _ c.least-count.ensures c.greedy-walked.auto.keys in
+    let room = list_room (asked s) s.requires.walkable s.args.table.now refl _ s.requires.epoch_bound.1 _ c.max-most.ensures
+    _ _ _ c.greedy-walked.ensures _ c.min-count.ensures c.greedy-walked.auto.keys in
     record { rising = room.0; count_le_len = room.1 }
 
 pub returns : goal.returns
 unfolding cleaned_call
 returns c =
     let s = (goal.at.returns c).Start in
-    answered (asked s) s.requires.walkable s.args.table.now refl _ s.requires.epoch_bound.1 _ c.raised-most.ensures
-    _ _ _ c.greedy-walked.ensures _ c.least-count.ensures _ c.list_answers.ensures
+    answered (asked s) s.requires.walkable s.args.table.now refl _ s.requires.epoch_bound.1 _ c.max-most.ensures
+    _ _ _ c.greedy-walked.ensures _ c.min-count.ensures _ c.list_answers.ensures
