@@ -119,9 +119,6 @@ module _ {dim : ℕ} {vectors ids dists : List ℕ} {target : Float} {degree : �
     abbrev Here : List Float → List ℕ → ℕ → ℕ → Type 0
     Here fs row taken i = Walk dim vectors ids dists target (8 - round) current degree whole (length row₀) fs row taken i
 
-    pub walk_first : Here fs₀ row₀ taken₀ 0
-    walk_first = record { le = omega arith; few = g.few; nf = g.nf; nr = refl; is = refl }
-
     whole_is : whole ≡ all
     whole_is =
         let r : 9 - round ≡ suc (8 - round) = omega (arith, before) in
