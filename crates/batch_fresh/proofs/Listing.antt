@@ -6,22 +6,21 @@ use Prim.Native.Nat.{ℕ, suc, ◌+◌, ◌*◌, ◌-◌, ◌≤◌, ◌<◌}
 use native.Mathlib.Nat.{add-sub_cancel_left, eq-or-lt_of_le, suc-mul, zero-mul, add_comm}
 use native.Mathlib.Numerals.{add-one}
 use native.Mathlib.Omega.{arith}
-use lib.ListN.{length, get_or, take, drop, length-take, length-drop}
+use lib.ListN.{length, get_or, take, drop}
 use lib.Seq.{drop-drop}
 use Rattle.definition.specs.Lists.{groups}
 use Rattle.definition.specs.Tables.{pad, ids, padded}
 use Rattle.definition.specs.Batch.{Setting, Listed, fresh_of, fresh_rows}
 use Rattle.laws.specs.Listed.{fresh_width, listed_at}
 use Rattle.laws.specs.Tables.{ids-of, row_fits}
-use Rattle.laws.specs.Parts.{part, part_length, part_at, within_none, within_wider, within_trans}
-use Rattle.laws.specs.Words.{Below}
+use Rattle.laws.specs.Parts.{part, part_length, within_wider, within_trans}
 use Rattle.theory.specs.build.Walks.{node_walks_lem, batch-walks, epoch_after, epoch_end}
 use Rattle.scratch.specs.Layout.{most_factors, fresh_at, fresh_row_at}
 use Rattle.scratch.specs.Lent.{Lent}
 use Rattle.given.specs.Given.{Given, setting}
 use Rattle.given.specs.Listing.{Listing, walks_of, Listable}
 use Rattle.given.specs.Fresh.{fresh_row}
-use Rattle.batch_fresh.specs.Made.{Fit, Insertion, insertion, Insertable, inserted, walks_for, fresh_for, RowMade, RowsMade, FreshRows}
+use Rattle.batch_fresh.specs.Made.{Fit, Insertion, insertion, inserted, walks_for, fresh_for, RowMade, RowsMade, FreshRows}
 
 ids-padded : (width : ℕ) (xs : List ℕ) → ((x : ℕ) → Mem x xs → x ≡ pad → ⊥) → ids (padded width xs) ≡ xs
 unfolding padded
@@ -50,16 +49,6 @@ module _ (g : Setting) (wide : List ℕ) (start extra : ℕ) where
       ap (λ (l : List ℕ). ids (take fresh_width l)) (drop-drop (fresh_width * q) fresh_width t ∙ ap (λ (k : ℕ). drop k t) a)
       ∙ f (suc q) (omega arith)
       ∙ sym (ap (fresh_after (get_or us q 0)) (drop-drop (q * extra) extra seeds ∙ ap (λ (k : ℕ). drop k seeds) b))))
-
-module _ (g : Given) (wide : List ℕ) (l : Listing) (before : Lent) where
-  pub rows_none : RowsMade g wide l before before 0
-  rows_none =
-      record {
-        rows = λ q h. absurd (omega arith);
-        fits = λ q h. absurd (omega arith);
-        words_kept = within_none 0 (fresh_row_at g.n 0) before.words;
-        floats_kept = within_none 0 most_factors before.floats;
-      }
 
 module _ {g : Given} {wide : List ℕ} {l : Listing} {before at : Lent} {k : ℕ} (m : RowsMade g wide l before at k) where
   module _ {after : Lent} (r : RowMade g wide (inserted g l k) at after) where
@@ -114,24 +103,6 @@ module _ {g : Given} {wide : List ℕ} {l : Listing} {before at : Lent} {k : ℕ
               (λ q h. ids_at q (omega arith));
           made = subst (RowsMade g wide l before at) all m;
         }
-
--- ---- one listed node of all
-group-below : (n a e : ℕ) (l : List ℕ) → Below n l → Below n (part a e l)
-group-below n a e l b k h =
-    let s : length (part a e l) ≤ e - a = omega (arith, length-take (e - a) (drop a l)) in
-    let t : length (part a e l) ≤ length l - a = omega (arith, length-take (e - a) (drop a l), length-drop a l) in
-    subst (λ (x : ℕ). x < n) (sym (part_at a e l k 0 (omega arith))) (b (a + k) (omega arith))
-
-pub insertable : {g : Given} {l : Listing} (p : ℕ) → Listable g l → p < length l.nodes → Insertable g (lent_to g l p)
-insertable {g} {l} p r h =
-    let few = r.few in
-    let a = p * g.params.extra in
-    record {
-      place_in = omega arith;
-      node_in = r.nodes_in p h;
-      start_in = r.start_in;
-      seeds_in = group-below g.n a (a + g.params.extra) l.seeds r.seeds_in;
-    }
 
 -- ---- the epoch: one and its seeds for each node
 module _ {g : Given} {l : Listing} (ok : Listable g l) (wide : List ℕ) where

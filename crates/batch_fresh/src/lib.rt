@@ -155,8 +155,8 @@ pub fn fresh_rows(
 {
     let extra = g.params.extra;
     let mut last = epoch;
-    let mut p = 0;
-    while p < nodes.len() {
+    // By hand: the groups of seeds are no `chunks_exact(extra)`, whose size may not be 0, as `extra` may.
+    for (p, &node) in nodes.iter().enumerate() {
         let a = p * extra;
         let e = a + extra;
         last = fresh_row(
@@ -164,14 +164,13 @@ pub fn fresh_rows(
             vectors,
             last,
             p,
-            nodes[p],
+            node,
             start,
             &seeds[a..e],
             wide,
             words,
             floats,
         );
-        p += 1;
     }
     last
 }

@@ -1,11 +1,11 @@
 -- The pool grows: by a row, by a walk, by one walk after another. A walk leaves the pool alone, and what it visited, with its distances, goes into it.
-use mathlib.Core.Path.{◌≡◌, refl, sym, ap, subst}
+use mathlib.Core.Path.{◌≡◌, refl, sym, subst}
 use mathlib.Core.List.{List, [], ◌++◌, map}
 use Prim.Native.Nat.{ℕ, ◌+◌, ◌-◌, ◌*◌, ◌≤◌, ◌<◌}
 use native.Mathlib.Numerals.{add-one}
 use native.Mathlib.Omega.{arith}
 use lib.ListN.{length, get_or, take}
-use lib.Seq.{take-suc, take_all}
+use lib.Seq.{take-suc}
 use borrow.Rule.Slice.PartMut.{put_mid}
 use Rattle.definition.specs.Lists.{joined}
 use Rattle.definition.specs.Tables.{ids}
@@ -116,9 +116,6 @@ module _ (p : Plan) (d : ℕ → ℕ) where
 -- ---- the lists of several walks
 pub joined_next : (f : ℕ → List ℕ) (l : List ℕ) (k : ℕ) → k < length l → joined (map f (take (k + 1) l)) ≡ joined (map f (take k l)) ++ f (get_or l k 0)
 joined_next f l k h = rw (add-one k, take-suc l k 0 h) (joined_snoc f (take k l) (get_or l k 0))
-
-pub joined-all : (f : ℕ → List ℕ) (l : List ℕ) (k : ℕ) → length l ≤ k → joined (map f (take k l)) ≡ joined (map f l)
-joined-all f l k h = ap (λ (z : List ℕ). joined (map f z)) (take_all k l h)
 
 pub joined-none : (f : ℕ → List ℕ) → joined (map f []) ≡ []
 unfolding joined

@@ -7,13 +7,13 @@ use native.Mathlib.Numerals.{add-one}
 use lib.ListN.{length, get_or, take}
 use lib.Seq.{take-suc}
 use borrow.Rule.Slice.PartMut.{put_mid}
-use Rattle.laws.specs.Parts.{Within, part_length, part_at, within_at, within_trans, within_none, put_part, put_within}
+use Rattle.laws.specs.Parts.{Within, part_length, part_at, within_at, within_trans, put_part, put_within}
 use Rattle.scratch.specs.Layout.{visited_at, visited_end, visited_dists_at, pool_at, pool_end}
 use Rattle.greedy.specs.declared.Plan.{Plan}
 use Rattle.greedy.specs.Scratch.{space_kept, Room}
-use Rattle.batch_pool.specs.Pooled.{pool_as, Pooled, Added}
+use Rattle.batch_pool.specs.Pooled.{pool_as, Added}
 use Rattle.batch_pool.specs.Regions.{Stage, stage, pool_words_of, pool_of, seen_of, Seen, Filled}
-use Rattle.batch_pool.proofs.Adding.{added_none, added_then}
+use Rattle.batch_pool.proofs.Adding.{added_then}
 
 -- the words of the pool came back, with r ids in it
 abbrev pub returned : ℕ → Stage → List ℕ → ℕ → Stage
@@ -36,9 +36,6 @@ room_kept p epoch end a b m w =
     }
 
 -- ---- the visited, one after another
-pub filled_none : (n : ℕ) (s : Stage) → Pooled n (pool_of n s) → Filled n s s 0
-filled_none n s h = record { added = added_none (Seen n s.words 0) h; kept = within_none (pool_at n) (pool_end n) s.words }
-
 module _ (n : ℕ) (s₀ s : Stage) (k : ℕ) (f : Filled n s₀ s k) (h : k < n) (room : pool_end n ≤ length s₀.words) where
   abbrev words₀ : List ℕ
   words₀ = s₀.words

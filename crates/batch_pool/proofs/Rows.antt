@@ -1,11 +1,11 @@
 -- The ids of a row, word by word: padding adds nothing, an id with its distance is one id more.
-use mathlib.Core.Path.{◌≡◌, sym, ap, ◌∙◌, subst}
+use mathlib.Core.Path.{◌≡◌, sym, ap, ◌∙◌}
 use mathlib.Core.List.{List, [], ◌∷◌, ◌++◌, append-nil}
 use Prim.Native.Nat.{ℕ, ◌+◌, ◌≤◌, ◌<◌}
 use native.Mathlib.Numerals.{add-one}
 use native.Mathlib.Omega.{arith}
 use lib.ListN.{length, get_or, take}
-use lib.Seq.{take-suc, take_all}
+use lib.Seq.{take-suc}
 use Rattle.definition.specs.Lists.{keep}
 use Rattle.definition.specs.Tables.{pad, ids}
 use Rattle.laws.specs.Tables.{ids-append, ids-first, ids_skip}
@@ -36,9 +36,6 @@ module _ (n : ℕ) (row : List ℕ) (d : ℕ → ℕ) (p₀ : Pool) where
   row_start h = record { le = omega arith; added = added_none (λ f. f ≡ d) h }
 
   module _ (p : Pool) (k : ℕ) (w : RowSoFar n row d p₀ p k) where
-    pub row_done : length row ≤ k → Added n p₀ p (ids row) (λ f. f ≡ d)
-    row_done h = subst (λ (l : List ℕ). Added n p₀ p (ids l) (λ f. f ≡ d)) (take_all k row h) w.added
-
     module _ (h : k < length row) where
       pub row_pad : get_or row k 0 ≡ padding → RowSoFar n row d p₀ p (k + 1)
       row_pad e = record { le = omega arith; added = rw (ids-pad row k h e) w.added }

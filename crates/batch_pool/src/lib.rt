@@ -50,14 +50,11 @@ fn add_row(
         (ids row.now) (λ d. d ≡ from_query dim vectors.now query.now) }
 {
     let mut len = 0;
-    let mut k = 0;
-    while k < row.len() {
-        let id = row[k];
+    for &id in row {
         if id != table::PADDING {
             let dist = metric::from_query(dim, vectors, query, id as usize);
             len = add_once(pool, n, stamp, len, id, dist);
         }
-        k += 1;
     }
     len
 }
@@ -74,14 +71,12 @@ fn add_visited(words: &mut [u32], n: usize, visited: usize, stamp: u32, len: usi
     let pool_at = scratch::pool_at(n);
     let pool_end = scratch::pool_end(n);
     let mut more = len;
-    let mut k = 0;
-    while k < visited {
+    for k in 0..visited {
         let at = ids_at + k;
         let id = words[at];
         let dist_at = dists_at + k;
         let dist = words[dist_at];
         more = add_once(&mut words[pool_at..pool_end], n, stamp, more, id, dist);
-        k += 1;
     }
     more
 }
@@ -142,12 +137,8 @@ fn add_walks(
     ensures epoch_value { result.epoch ≡ c.epoch + length seeds.now }
 {
     let mut s = c;
-    let mut k = 0;
-    while k < seeds.len() {
-        s = add_walk(
-            words, vectors, query, wide, p, s.epoch, stamp, s.len, seeds[k],
-        );
-        k += 1;
+    for &seed in seeds {
+        s = add_walk(words, vectors, query, wide, p, s.epoch, stamp, s.len, seed);
     }
     s
 }

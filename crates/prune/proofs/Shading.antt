@@ -76,9 +76,6 @@ pub record Shading (dim : ℕ) (vectors query ids dists : List ℕ) (target : Fl
       → shaded_from dim vectors ids dists target taken j fs ≡ shaded_from dim vectors ids dists target taken from fs₀
 
 module _ {dim : ℕ} {vectors query ids dists : List ℕ} {target : Float} {from : ℕ} {fs₀ : List Float} where
-  pub shading_start : length fs₀ ≡ length ids → from ≤ length ids → Shading dim vectors query ids dists target from fs₀ fs₀ from
-  shading_start nf le = record { le = le; nf = nf; are = λ taken q. refl }
-
   module _ {fs : List Float} {j : ℕ} (m : Measurable dim vectors ids dists) (s : Shading dim vectors query ids dists target from fs₀ fs j) where
     pub shading_raise : j < length ids → {apart : ℕ} {v : Float} → Exact (from_query dim vectors query (get_or ids j 0)) apart
         → lt target (get_or fs j nan) ≡ false → v ≡ larger (get_or fs j nan) (quotient (get_or dists j 0) apart)

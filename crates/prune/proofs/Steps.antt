@@ -14,7 +14,6 @@ use Rattle.definition.specs.Beam.{Item, item}
 use Rattle.definition.specs.Metric.{between}
 use Rattle.definition.specs.Floats.{largest, above, one}
 use Rattle.definition.specs.Prune.{rounds, shade_all, next_alpha, target_of, most_rounds}
-use Rattle.laws.specs.Truth.{either}
 use Rattle.laws.specs.Paired.{items_of, items_at, items-length}
 use Rattle.prune.specs.Says.{shaded_from, rounds_of, Taken}
 use Rattle.prune.proofs.Walking.{onward, onward_start, onward_skip, onward_take, onward_end, onward_full}
@@ -41,7 +40,6 @@ pub record Walk (dim : ℕ) (vectors ids dists : List ℕ) (target : Float) (fue
 -- between rounds
 pub record Going (dim : ℕ) (vectors ids dists : List ℕ) (target : Float) (degree : ℕ) (all : List ℕ) (size : ℕ)
     (fs : List Float) (row : List ℕ) (current : Float) (taken round : ℕ) : Type 0 where
-  pub before : round < 9
   pub few : taken ≤ degree
   pub nf : length fs ≡ length ids
   pub nr : length row ≡ size
@@ -51,7 +49,7 @@ pub going_first : {dim : ℕ} {vectors ids dists : List ℕ} {target : Float} {d
     → target ≡ target_of alpha → length fs ≡ length ids
     → Going dim vectors ids dists target degree (rounds_of dim vectors ids dists degree alpha fs) (length row) fs row (of_bits binary32 0x3F800000) 0 0
 unfolding rounds_of most_rounds one
-going_first {degree = degree} alpha fs row e nf = record { before = omega arith; few = omega arith; nf = nf; nr = refl; is = rw (sub-zero degree, e) refl }
+going_first {degree = degree} alpha fs row e nf = record { few = omega arith; nf = nf; nr = refl; is = rw (sub-zero degree, e) refl }
 
 module _ {dim : ℕ} {vectors ids dists : List ℕ} {target : Float} {degree : ℕ} where
   pub walk_same : {fuel : ℕ} {current : Float} {all : List ℕ} {size : ℕ} {fs fs' : List Float} {row row' : List ℕ} {taken taken' i : ℕ}
@@ -114,19 +112,16 @@ module _ {dim : ℕ} {vectors ids dists : List ℕ} {target : Float} {degree : �
 
   -- a round within the rounds
   module _ {current : Float} {all : List ℕ} {size : ℕ} {fs₀ : List Float} {row₀ : List ℕ} {taken₀ round : ℕ}
-      (g : Going dim vectors ids dists target degree all size fs₀ row₀ current taken₀ round) where
+      (g : Going dim vectors ids dists target degree all size fs₀ row₀ current taken₀ round) (before : round < 9) where
     abbrev whole : List ℕ
     whole = from_round dim vectors ids dists target current degree round fs₀ row₀ taken₀
 
     abbrev Here : List Float → List ℕ → ℕ → ℕ → Type 0
     Here fs row taken i = Walk dim vectors ids dists target (8 - round) current degree whole (length row₀) fs row taken i
 
-    pub walk_first : Here fs₀ row₀ taken₀ 0
-    walk_first = record { le = omega arith; few = g.few; nf = g.nf; nr = refl; is = refl }
-
     whole_is : whole ≡ all
     whole_is =
-        let r : 9 - round ≡ suc (8 - round) = omega (arith, g.before) in
+        let r : 9 - round ≡ suc (8 - round) = omega (arith, before) in
         let cs = items_of ids dists in
         ap (λ (l : List ℕ). take taken₀ row₀ ++ l) (sym (onward_start (between dim vectors) target (8 - round) current (degree - taken₀) cs fs₀))
         ∙ ap (λ (k : ℕ). take taken₀ row₀ ++ rounds (between dim vectors) target k current (degree - taken₀) cs fs₀) (sym r)
@@ -155,25 +150,27 @@ module _ {dim : ℕ} {vectors ids dists : List ℕ} {target : Float} {degree : �
             let n = items-length ids dists same in
             onward_end (between dim vectors) target (8 - round) current (items_of ids dists) fs (w.nf ∙ sym n) i (degree - taken) (omega (arith, n))
 
-        pub last_round : 9 ≤ round + 1 → Taken row taken degree all
-        unfolding rounds
-        last_round h =
-            let r : 8 - round ≡ 0 = omega arith in
-            ended (past ∙ ap (λ (k : ℕ). cond (above target current) (after k) []) r ∙ either (λ (l : List ℕ). l ≡ []) (above target current) refl refl)
-
         pub reached : lt current target ≡ false → Taken row taken degree all
         unfolding above
         reached t = ended (past ∙ rw t refl)
 
-        pub again : round + 1 < 9 → lt current target ≡ true → length row₀ ≡ size
+        pub again : lt current target ≡ true → length row₀ ≡ size
             → Going dim vectors ids dists target degree all size fs row (next_alpha target current) taken (round + 1)
         unfolding above
-        again h t ns =
+        again t ns =
             let r : 8 - round ≡ 9 - (round + 1) = omega arith in
             record {
-              before = h;
               few = w.few;
               nf = w.nf;
               nr = w.nr ∙ ns;
               is = ap (λ (k : ℕ). take taken row ++ after k) (sym r) ∙ ap (λ (l : List ℕ). take taken row ++ l) (sym (past ∙ rw t refl)) ∙ w.is ∙ whole_is;
             }
+
+  -- no round is left
+  pub last_round : {current : Float} {all : List ℕ} {size : ℕ} {fs : List Float} {row : List ℕ} {taken round : ℕ}
+      → Going dim vectors ids dists target degree all size fs row current taken round → 9 ≤ round → Taken row taken degree all
+  unfolding rounds
+  last_round {current} {fs = fs} {row = row} {taken = taken} {round = round} g h =
+      let r : 9 - round ≡ 0 = omega arith in
+      let over = ap (λ (k : ℕ). take taken row ++ rounds (between dim vectors) target k current (degree - taken) (items_of ids dists) fs) r in
+      record { few = g.few; are = sym (append-nil (take taken row)) ∙ sym over ∙ g.is }

@@ -2,7 +2,7 @@
 #![tactic(auto)]
 
 ghost use Rattle.std.specs.Prelude.{◌≡◌, ◌+◌, ◌*◌, ◌≤◌, length};
-ghost use Rattle.definition.specs.Floats.{larger};
+ghost use Rattle.definition.specs.Floats.{larger, smaller};
 ghost use Rattle.definition.specs.Metric.{between};
 ghost use Rattle.definition.specs.Prune.{target_of, increment, next_alpha, quotient, pruned_from, prune};
 ghost use Rattle.whole.specs.Whole.{limit};
@@ -16,29 +16,41 @@ use metric::from_query;
 use prune_pool::choose;
 use table::{index_of, pad_from};
 
-// f32::MAX
-const LARGEST: f32 = 3.40282347e38;
+const MOST_ROUNDS: usize = 9;
+
+// By hand: of two that compare equal `f32::max` may give either, and the definition says which.
+fn larger(x: f32, y: f32) -> f32
+    ensures { result ≡ larger x y }
+{
+    if x < y { y } else { x }
+}
+
+// By hand: the same of `f32::min`.
+fn smaller(x: f32, y: f32) -> f32
+    ensures { result ≡ smaller x y }
+{
+    if y < x { y } else { x }
+}
 
 // max(alpha, 1); a NaN acts as 1.
 fn target_of(alpha: f32) -> f32
     ensures { result ≡ target_of alpha }
 {
-    if 1.0 < alpha { alpha } else { 1.0 }
+    larger(1.0, alpha)
 }
 
 // min(target, 1.2)
 fn increment_of(target: f32) -> f32
     ensures { result ≡ increment target }
 {
-    if 1.2 < target { 1.2 } else { target }
+    smaller(target, 1.2)
 }
 
 // min(current x increment, target)
 fn next_alpha(target: f32, current: f32) -> f32
     ensures { result ≡ next_alpha target current }
 {
-    let raised = current * increment_of(target);
-    if target < raised { target } else { raised }
+    smaller(current * increment_of(target), target)
 }
 
 // The quotient of a candidate's distance by its distance to the taken one: here, and nowhere before, they are floats.
@@ -47,19 +59,10 @@ fn quotient_of(dist: u32, apart: u32) -> f32
     ensures { result ≡ quotient dist apart }
 {
     if apart == 0 {
-        LARGEST
+        f32::MAX
     } else {
         dist as f32 / apart as f32
     }
-}
-
-// The larger of a factor and that quotient.
-fn raised(factor: f32, dist: u32, apart: u32) -> f32
-    requires { (dist ≤ limit) × (apart ≤ limit) }
-    ensures { result ≡ larger factor (quotient dist apart) }
-{
-    let q = quotient_of(dist, apart);
-    if factor < q { q } else { factor }
 }
 
 // Every candidate from place `from` on whose factor isn't above target is shaded by the taken entry, whose vector is `query`.
@@ -78,16 +81,13 @@ fn shade_rest(
     ensures { Shaded dim vectors.now query.now ids.now dists.now target from
         factors.old factors.new }
 {
-    let m = ids.len();
-    let mut j = from;
-    while j < m {
+    for j in from..ids.len() {
         let factor = factors[j];
         if !(target < factor) {
             let other = index_of(ids[j]);
             let apart = from_query(dim, vectors, query, other);
-            factors[j] = raised(factor, dists[j], apart);
+            factors[j] = larger(factor, quotient_of(dists[j], apart));
         }
-        j += 1;
     }
 }
 
@@ -138,36 +138,26 @@ fn take_rounds(
     ensures { Taken row.new result degree
         (rounds_of dim vectors.now ids.now dists.now degree alpha factors.old) }
 {
-    let m = ids.len();
     let target = target_of(alpha);
     let mut current = 1.0;
     let mut count = 0;
-    let mut round: usize = 0;
-    'rounds: loop {
-        let mut i = 0;
-        while i < m {
+    'rounds: for _ in 0..MOST_ROUNDS {
+        for (i, &id) in ids.iter().enumerate() {
             if degree <= count {
                 break 'rounds;
             }
             if !(current < factors[i]) {
-                let id = ids[i];
                 row[count] = id;
                 count += 1;
-                factors[i] = LARGEST;
+                factors[i] = f32::MAX;
                 let taken = index_of(id);
                 shade_later(vectors, dim, ids, dists, factors, i + 1, taken, target);
             }
-            i += 1;
         }
-        round += 1;
-        if 9 <= round {
+        if !(current < target) {
             break;
         }
-        if current < target {
-            current = next_alpha(target, current);
-        } else {
-            break;
-        }
+        current = next_alpha(target, current);
     }
     count
 }

@@ -1,8 +1,9 @@
 -- Marks made and marks counted, one id more.
-use Rattle.std.proofs.Common.{ℕ, ◌+◌, ◌<◌, add-one, arith, ◌≡◌, refl, sym, ap, ◌∙◌, true, false, ◌||◌, List, [], ◌∷◌, ◌++◌, eqb-true, eq-eqb, ne_eqb}
+use Rattle.std.proofs.Common.{ℕ, ◌+◌, ◌≤◌, ◌<◌, add-one, arith, ◌≡◌, refl, sym, ap, ◌∙◌, Bool, true, false, ◌||◌, List, [], ◌∷◌, ◌++◌, eqb-true, eq-eqb, ne_eqb}
 use Rattle.std.proofs.Common.{eqb, length, get_or, take, set, length-set, take-suc, get_or-set_same, get_or-set_other}
 use Rattle.std.proofs.Math.Bool.{or-false, or-true}
 use Rattle.std.proofs.lemmas.Bool.{eqb-false}
+use Rattle.std.specs.Int.{from_bool}
 use Rattle.definition.specs.Lists.{keep, is_in}
 use Rattle.definition.specs.Recall.{in_both}
 use Rattle.laws.specs.Truth.{decide}
@@ -65,10 +66,18 @@ pub count-start : (epoch : ℕ) (words : List ℕ) → Counted epoch words [] 0
 unfolding in_both keep
 count-start epoch words = record { is = λ ys m. refl }
 
+bit_is : (b : Bool) → from_bool b ≡ bit b
+bit_is true = refl
+bit_is false = refl
+
+pub bit_few : (b : Bool) → from_bool b ≤ 1
+bit_few true = omega arith
+bit_few false = omega arith
+
 module _ (epoch : ℕ) (words ids : List ℕ) (j r : ℕ) (fits : j < length ids) (inside : get_or ids j 0 < length words) where
-  pub count_more : (x : ℕ) → x ≡ bit (eqb (get_or words (get_or ids j 0) 0) epoch) → Counted epoch words (take j ids) r
+  pub count_more : (x : ℕ) → x ≡ from_bool (eqb (get_or words (get_or ids j 0) 0) epoch) → Counted epoch words (take j ids) r
       → Counted epoch words (take (j + 1) ids) (r + x)
   count_more x e c =
       record {
-        is = λ ys m. rw (add-one j, take-suc ids j 0 fits, both_snoc) (omega (arith, c.is ys m, e, ap bit (m (get_or ids j 0) inside)));
+        is = λ ys m. rw (add-one j, take-suc ids j 0 fits, both_snoc) (omega (arith, c.is ys m, e ∙ bit_is (eqb (get_or words (get_or ids j 0) 0) epoch), ap bit (m (get_or ids j 0) inside)));
       }

@@ -1,13 +1,12 @@
 -- Marks: some ids are marked with an epoch above every mark. Then a mark is the epoch exactly where its place is among them; so the other ids whose mark it is
 -- are as many as are in both.
-use Rattle.std.specs.Prelude.{ℕ, ◌≤◌, ◌<◌, ◌≡◌, List, length, get_or}
+use Rattle.std.specs.Prelude.{ℕ, ◌<◌, ◌≡◌, List, length, get_or}
 use Rattle.definition.specs.Recall.{in_both}
 use Rattle.marks.specs.Marked.{Marks, Seen}
 
--- the first `count` of the ids are places of a list so long
-pub record Places (ids : List ℕ) (count long : ℕ) : Type 0 where
-  pub few : count ≤ length ids
-  pub inside : (j : ℕ) → j < count → get_or ids j 0 < long
+-- the ids are places of a list so long
+pub record Places (ids : List ℕ) (long : ℕ) : Type 0 where
+  pub inside : (j : ℕ) → j < length ids → get_or ids j 0 < long
 
 -- every mark is below the epoch
 pub record Unmarked (epoch : ℕ) (words : List ℕ) : Type 0 where

@@ -3,9 +3,8 @@
 // answers those are counted whose mark it is. So no list is held against another, and nothing here knows in what order answers stand.
 #![tactic(auto)]
 
-ghost use Rattle.std.specs.Prelude.{◌≡◌, [], ◌+◌, ◌≤◌, ◌<◌, eqb, length, take};
+ghost use Rattle.std.specs.Prelude.{◌≡◌, [], ◌+◌, ◌<◌, length};
 ghost use Rattle.definition.specs.Outcome.{query_count, asked_each, report_done, ReportMeets};
-ghost use Rattle.laws.specs.Sums.{bit};
 ghost use Rattle.theory.specs.build.Walks.{epoch_end};
 ghost use Rattle.accepted.specs.Recall.{ReportAccepted};
 ghost use Rattle.marks.specs.Marked.{Marks};
@@ -39,58 +38,38 @@ struct Tally {
     whole: usize,
 }
 
-// The epoch as the mark of each of the first `count` ids.
-fn mark(words: &mut [u32], ids: &[u32], count: usize, epoch: u32)
+// The epoch as the mark of each of the ids.
+fn mark(words: &mut [u32], ids: &[u32], epoch: u32)
     requires unmarked { Unmarked epoch words.old }
-    requires places { Places ids.now count (length words.old) }
-    ensures { MarksOf epoch (take count ids.now) words.new }
+    requires places { Places ids.now (length words.old) }
+    ensures { MarksOf epoch ids.now words.new }
 {
-    let mut j = 0;
-    while j < count {
-        let i = ids[j] as usize;
-        words[i] = epoch;
-        j += 1;
+    for &id in ids {
+        words[id as usize] = epoch;
     }
 }
 
-// 1 if a mark is the epoch, else 0: a number, so that nothing branches on it.
-fn is_hit(mark: u32, epoch: u32) -> usize
-    ensures { (result ≡ bit (eqb mark epoch)) × (result ≤ 1) }
-{
-    if mark == epoch { 1 } else { 0 }
-}
-
-// How many of the first `count` ids have the epoch as their mark.
-fn marked(words: &[u32], ids: &[u32], count: usize, epoch: u32) -> usize
-    requires { Places ids.now count (length words.now) }
-    ensures { Counted epoch words.now (take count ids.now) result }
+// How many of the ids have the epoch as their mark. A number is added for each, so that nothing branches on it.
+fn marked(words: &[u32], ids: &[u32], epoch: u32) -> usize
+    requires { Places ids.now (length words.now) }
+    ensures { Counted epoch words.now ids.now result }
 {
     let mut sum = 0;
-    let mut j = 0;
-    while j < count {
-        let i = ids[j] as usize;
-        sum += is_hit(words[i], epoch);
-        j += 1;
+    for &id in ids {
+        sum += usize::from(words[id as usize] == epoch);
     }
     sum
 }
 
-// How many of the first `count` ids are among the first `most` of the nearest. The marks stay: none is above the epoch.
-fn in_both(
-    words: &mut [u32],
-    ids: &[u32],
-    count: usize,
-    nearest: &[u32],
-    most: usize,
-    epoch: u32,
-) -> usize
+// How many of the ids are among the nearest. The marks stay: none is above the epoch.
+fn in_both(words: &mut [u32], ids: &[u32], nearest: &[u32], epoch: u32) -> usize
     requires unmarked { Unmarked epoch words.old }
-    requires places { Places ids.now count (length words.old) }
-    requires places_2 { Places nearest.now most (length words.old) }
-    ensures { CountedBoth epoch (take count ids.now) (take most nearest.now) words.new result }
+    requires places { Places ids.now (length words.old) }
+    requires places_2 { Places nearest.now (length words.old) }
+    ensures { CountedBoth epoch ids.now nearest.now words.new result }
 {
-    mark(words, nearest, most, epoch);
-    marked(words, ids, count, epoch)
+    mark(words, nearest, epoch);
+    marked(words, ids, epoch)
 }
 
 // One query: how many of its nearest the search brings. The marks must be at most `epoch`, and are left so for the epoch that the query comes to, so that
@@ -120,11 +99,9 @@ fn one_query(
     let nearest = exhaustive::exhaustive_accepted(n, a.dim, vectors, a.k, query, near, apart);
     let next = marks::next_epoch(found.epoch);
     let hits = in_both(
-        &mut words[0..n],
-        ids,
-        found.count,
-        near,
-        nearest.count,
+        &mut words[..n],
+        &ids[..found.count],
+        &near[..nearest.count],
         next,
     );
     Brought { epoch: next, hits }
@@ -137,40 +114,30 @@ fn all_queries(
     vectors: &[u8],
     table: &[u32],
     queries: &[u8],
-    count: usize,
     each: usize,
     words: &mut [u32],
 ) -> Tally
     requires queries_accepted { QueriesAccepted (call_of a vectors.now table.now queries.now words.old []) }
-    requires count_value { count ≡ query_count (call_of a vectors.now table.now queries.now words.old []) }
     requires each_value { each ≡ asked_each (call_of a vectors.now table.now queries.now words.old []) }
     ensures { Tallied
         (call_of a vectors.now table.now queries.now words.old [])
-        count words.new result }
+        (query_count (call_of a vectors.now table.now queries.now words.old [])) words.new result }
 {
     let mut ids = [0u32; 256];
     let mut dists = [0.0f32; 256];
     let mut near = [0u32; 256];
     let mut apart = [0.0f32; 256];
-    let dim = a.dim;
     let mut epoch = marks::first_epoch(words, a.n);
     let mut found = 0;
     let mut whole = 0;
-    let mut q = 0;
-    while q < count {
-        let at = q * dim;
-        let end = at + dim;
-        let query = &queries[at..end];
+    for query in queries.chunks_exact(a.dim) {
         let brought = one_query(
             a, vectors, table, query, epoch, words, &mut ids, &mut dists, &mut near, &mut apart,
         );
         let hits = brought.hits;
         epoch = brought.epoch;
         found += hits;
-        if hits == each {
-            whole += 1;
-        }
-        q += 1;
+        whole += usize::from(hits == each);
     }
     Tally { found, whole }
 }
@@ -190,8 +157,8 @@ fn report_accepted(
 {
     let n = a.n;
     let count = queries.len() / a.dim;
-    let each = laws::least(a.k, n);
-    let t = all_queries(a, vectors, table, queries, count, each, words);
+    let each = a.k.min(n);
+    let t = all_queries(a, vectors, table, queries, each, words);
     let w = scratch::report_end(n);
     scratch::clear_front(words, floats, w, scratch::REPORT_FLOATS);
     answers::reported(count, count * each, t.found, t.whole)

@@ -1,11 +1,9 @@
 -- `quotient_of` meets its contract: distances are small enough to be floats, and the quotient is the definition's, by its two cases.
 use mathlib.Core.Path.{◌≡◌, refl}
 use Prim.Native.Nat.{ℕ, zero, suc}
-use native.Mathlib.Omega.{arith}
 use Rattle.definition.specs.Metric.{whole}
 use Rattle.definition.specs.Floats.{largest, divided}
 use Rattle.definition.specs.Prune.{quotient}
-use Rattle.whole.specs.Whole.{in_float_lem}
 use Rattle.prune.proofs.quotient_of.Goals as goal
 
 by_none : (dist apart : ℕ) → apart ≡ 0 → largest ≡ quotient dist apart
@@ -20,12 +18,6 @@ by_some dist (suc apart) n = refl
 pub returns-then-apart-eq0 : goal.returns-then-apart-eq0
 unfolding largest
 returns-then-apart-eq0 c = by_none _ _ c.if-apart-eq0.true
-
-pub int_to_float-result : goal.int_to_float-result
-int_to_float-result c = in_float_lem _ (omega arith)
-
-pub int_to_float-result-else-apart-eq0 : goal.int_to_float-result-else-apart-eq0
-int_to_float-result-else-apart-eq0 c = in_float_lem _ (omega arith)
 
 pub returns-else-apart-eq0 : goal.returns-else-apart-eq0
 unfolding divided whole

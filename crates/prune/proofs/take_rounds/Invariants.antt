@@ -7,19 +7,11 @@ use Rattle.prune.proofs.take_rounds.Given as goal
 
 abbrev pub invariant-loop-i : goal.invariant-loop-i
 invariant-loop-i l =
-    Walk l.dim l.vectors l.ids l.dists l.target (8 - l.round) l.current l.degree
-    (from_round l.dim l.vectors l.ids l.dists l.target l.current l.degree l.round l.initial.factors l.initial.row l.initial.count)
+    Walk l.dim l.vectors l.ids l.dists l.target (8 - l.counter) l.current l.degree
+    (from_round l.dim l.vectors l.ids l.dists l.target l.current l.degree l.counter l.initial.factors l.initial.row l.initial.count)
     (length l.initial.row) l.factors l.row l.count l.i
-
-abbrev pub decreases-loop-i : goal.decreases-loop-i
-decreases-loop-i l =
-    length l.ids - l.i
 
 abbrev pub invariant-rounds : goal.invariant-rounds
 invariant-rounds l =
     Going l.dim l.vectors l.ids l.dists l.target l.degree (rounds_of l.dim l.vectors l.ids l.dists l.degree l.alpha l.initial.factors)
-    (length l.initial.row) l.factors l.row l.current l.count l.round
-
-abbrev pub decreases-rounds : goal.decreases-rounds
-decreases-rounds l =
-    9 - l.round
+    (length l.initial.row) l.factors l.row l.current l.count l.counter

@@ -1,49 +1,45 @@
 -- `all_queries`. The loop's invariant: what was found in the first q queries, and in how many of them all, is the definition's; no mark is above the epoch,
 -- and no word but the marks differs.
-use Rattle.std.proofs.Common.{◌≡◌, refl, ◌∙◌, inl, inr, arith}
-use Rattle.recall.proofs.Tallying.{go_start, query_fits, query_room, go_on, go_end}
+use Rattle.std.proofs.Common.{refl, ◌∙◌}
+use Rattle.std.proofs.lemmas.List.{length_push}
+use Rattle.recall.proofs.Tallying.{go_start, coming_start, query_next, query_room, go_on, coming_more, no_more, go_end}
 use Rattle.recall.proofs.all_queries.Goals as goal
-use Rattle.recall.proofs.all_queries.Goals.{then-hits-each, else-hits-each}
 
-pub loop-q-init : goal.loop-q-init
-loop-q-init c = (go_start _ _ c.first_epoch-epoch.ensures, record { ids_long = refl; dists_long = refl; near_long = refl; apart_long = refl })
+pub loop-query-init : goal.loop-query-init
+loop-query-init c =
+    record {
+      going = go_start _ c.first_epoch-epoch.ensures;
+      outputs = record { ids_long = refl; dists_long = refl; near_long = refl; apart_long = refl };
+      coming = rw c.into_iter-query-iterator.ensures.into_iter_gives
+          (coming_start c.chunks_exact-query-items.ensures.rest c.chunks_exact-query-items.ensures.size);
+    }
 
-pub overflow_mul-at : goal.overflow_mul-at
-overflow_mul-at c = omega (arith, query_fits c.requires.queries_accepted c.requires.count_value c.loop-q-test.true)
+pub one_query-brought-requires-clause-query_accepted : goal.one_query-brought-requires-clause-query_accepted
+one_query-brought-requires-clause-query_accepted c =
+    let l = c.loop-query.invariant in
+    let steps = c.in-Some.ensures.steps in
+    let here = query_next c.requires.queries_accepted l.coming _ _ steps.1.0 steps.1.1 in
+    query_room c.requires.queries_accepted here c.first_epoch-epoch.ensures l.going l.outputs
 
-pub overflow_add-end : goal.overflow_add-end
-overflow_add-end c = omega (arith, query_fits c.requires.queries_accepted c.requires.count_value c.loop-q-test.true)
-
-pub slice_bounds-query-end : goal.slice_bounds-query-end
-slice_bounds-query-end c = query_fits c.requires.queries_accepted c.requires.count_value c.loop-q-test.true
-
-pub one_query-brought-requires : goal.one_query-brought-requires
-one_query-brought-requires c =
-    let p = c.requires in
-    let room =
-    query_room p.queries_accepted p.count_value c.loop-q-test.true c.first_epoch-epoch.ensures c.loop-q.invariant.0 c.loop-q.invariant.1 in
-    record { query_accepted = room.0; epoch_bound = room.1 }
-
-pub loop-q-preserved : goal.loop-q-preserved
-loop-q-preserved c =
-    let p = c.requires in
+pub loop-query-preserved : goal.loop-query-preserved
+loop-query-preserved c =
+    let l = c.loop-query.invariant in
+    let steps = c.in-Some.ensures.steps in
+    let here = query_next c.requires.queries_accepted l.coming _ _ steps.1.0 steps.1.1 in
     let kept = c.one_query-brought.auto in
-    let outs = c.loop-q.invariant.1 in (
-      go_on p.queries_accepted p.count_value c.loop-q-test.true c.first_epoch-epoch.ensures c.loop-q.invariant.0 c.one_query-brought.ensures p.each_value
-          (elim c.if-hits-each.branch [
-            | then-hits-each w ↦ inl (w.if-hits-each.true, w.whole-is)
-            | else-hits-each w ↦ inr (w.if-hits-each.false, w.whole-is)
-          ]),
-      record {
-        ids_long = kept.ids ∙ outs.ids_long;
-        dists_long = kept.dists ∙ outs.dists_long;
-        near_long = kept.near ∙ outs.near_long;
-        apart_long = kept.apart ∙ outs.apart_long;
-      },
-    )
+    rw length_push
+    (record {
+      going = go_on c.requires.queries_accepted here c.first_epoch-epoch.ensures l.going c.one_query-brought.ensures c.requires.each_value c.from-whole.ensures;
+      outputs = record {
+        ids_long = kept.ids ∙ l.outputs.ids_long;
+        dists_long = kept.dists ∙ l.outputs.dists_long;
+        near_long = kept.near ∙ l.outputs.near_long;
+        apart_long = kept.apart ∙ l.outputs.apart_long;
+      };
+      coming = coming_more c.requires.queries_accepted l.coming _ _ steps.1.0 steps.1.1 steps.0;
+    })
 
 pub returns : goal.returns
 returns c =
-    let l = c.loop-q in
-    let q : l.q ≡ c.args.count = omega (arith, l.invariant.0.most) in
-    go_end c.first_epoch-epoch.ensures (rw q at l.invariant.0.tallied)
+    let l = c.loop-query.invariant in
+    go_end c.first_epoch-epoch.ensures (no_more c.requires.queries_accepted l.coming c.in-None.ensures.steps.1.0) l.going

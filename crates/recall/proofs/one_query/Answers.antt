@@ -1,10 +1,16 @@
 -- `one_query`. The walk leaves no mark above its epoch, and its answers are entries, as are the nearest: these may be marked with the next, and those counted.
-use Rattle.recall.proofs.Answering.{walk_room, both_room, recalled}
+use Rattle.std.proofs.Common.{sym, length-take-le}
+use Rattle.recall.proofs.Answering.{walk_room, found_few, both_room, recalled}
 use Rattle.recall.proofs.one_query.Goals as goal
 
-pub walk_answers-found-requires : goal.walk_answers-found-requires
-walk_answers-found-requires c =
-    let room = walk_room c.requires.query_accepted c.requires.epoch_bound in record { walkable = room.0; epoch_bound = room.1 }
+pub walk_answers-found-requires-clause-walkable : goal.walk_answers-found-requires-clause-walkable
+walk_answers-found-requires-clause-walkable c = walk_room c.requires.query_accepted
+
+pub slice_bounds-in_both-end-3 : goal.slice_bounds-in_both-end-3
+slice_bounds-in_both-end-3 c = found_few c.requires.query_accepted c.walk_answers-found.ensures
+
+pub slice_bounds-in_both-end-4 : goal.slice_bounds-in_both-end-4
+slice_bounds-in_both-end-4 c = sym (length-take-le _ _ (found_few c.requires.query_accepted c.walk_answers-found.ensures))
 
 pub in_both-hits-requires : goal.in_both-hits-requires
 in_both-hits-requires c =

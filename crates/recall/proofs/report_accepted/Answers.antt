@@ -10,13 +10,12 @@ unfolding query_count asked_each
 all_queries-t-requires c =
     record {
       queries_accepted = record { floats = _; report = c.requires };
-      count_value = refl;
-      each_value = c.least-each.ensures;
+      each_value = c.min-each.ensures;
     }
 
 pub returns : goal.returns
 unfolding query_count asked_each
 returns c =
     let a = c.args in
-    done_is (call_of a.a a.vectors.now a.table.now a.queries.now a.words.now a.floats.now) refl c.least-each.ensures c.all_queries-t.ensures
+    done_is (call_of a.a a.vectors.now a.table.now a.queries.now a.words.now a.floats.now) refl c.min-each.ensures c.all_queries-t.ensures
     c.report_end-w.ensures c.clear_front.ensures c.reported.ensures
