@@ -123,9 +123,8 @@ module _ {f : Merging} {node : ℕ} (own : node < f.n) (ch : Chains f) where
   unfolding grown wanted Rattle.batch_ids.specs.Grown.others Rattle.definition.specs.Tables.ids Rattle.definition.specs.Lists.keep
   nothing acc = refl
 
-  pub along_end : {l₀ l : Front} {e : ℕ} → Along f node l₀ l e → (0 < e → ⊥) → NamingAdded f node l₀.len l₀.list l.list l.len
-  along_end {l₀} {l} {e} s h =
-      let q : e ≡ 0 = omega arith in
+  pub along_end : {l₀ l : Front} {e : ℕ} → Along f node l₀ l e → e ≡ 0 → NamingAdded f node l₀.len l₀.list l.list l.len
+  along_end {l₀} {l} {e} s q =
       let m = s.most in
       let left : sources f node e ≡ [] = ap (sources f node) q ∙ sources_none in
       record {
