@@ -9,27 +9,23 @@ use Rattle.definition.specs.Batch.{Setting, merged_ids}
 use Rattle.definition.specs.Slack.{slack}
 use Rattle.laws.specs.Listed.{fresh_width}
 use Rattle.laws.specs.Rising.{none}
-use Rattle.scratch.specs.Layout.{widest, fresh_at, fresh_row_at, seats_at}
-use Rattle.given.specs.Fresh.{Merging, entries_of, fresh_row, listed_in}
+use Rattle.scratch.specs.Layout.{widest, fresh_at, seats_at}
+use Rattle.given.specs.Fresh.{Merging, entries_of, listed_in}
 use Rattle.batch_ids.specs.Grown.{grown, wanted}
 use Rattle.batch_ids.specs.Says.{Rises, Grew}
 use Rattle.batch_chains.specs.Last.{seat}
-use Rattle.batch_chains.specs.Says.{Chains, sources, NamingAdded}
-use Rattle.batch_affected.specs.Base.{base_words, base_of, words_wide, words_listed, base_words_lem, base-length, seat_within}
+use Rattle.batch_chains.specs.Says.{Chains, sources, NamingAdded, place_word}
+use Rattle.std.specs.Prelude.{Option}
+use Rattle.batch_affected.specs.Base.{base_of, base_words_lem, base-length, seat_within}
 use Rattle.batch_affected.specs.Naming.{gathered}
 use Rattle.batch_affected.specs.Says.{merged_most, Ready, Gathered}
 
 -- ---- the row that is read
-pub base_wide : (wide fresh : List ℕ) (s node width : ℕ) → s ≡ 0
-    → take ((node * width + width) - node * width) (drop (node * width) wide) ≡ base_words s fresh (row width wide node)
+pub base_wide : (wide : List ℕ) (node width : ℕ) → take ((node * width + width) - node * width) (drop (node * width) wide) ≡ row width wide node
 unfolding row
-base_wide wide fresh s node width e =
+base_wide wide node width =
     let q : (node * width + width) - node * width ≡ width = omega arith in
-    ap (λ (k : ℕ). take k (drop (node * width) wide)) q ∙ sym (words_wide fresh e)
-
-pub base_fresh : (words wide : List ℕ) (n s a : ℕ) → (s ≡ 0 → ⊥) → a ≡ fresh_row_at n (s - 1)
-    → take ((a + fresh_width) - a) (drop a words) ≡ base_words s (fresh_row n (s - 1) words) wide
-base_fresh words wide n s a h e = ap (λ (k : ℕ). take ((k + fresh_width) - k) (drop k words)) e ∙ sym (words_listed wide h)
+    ap (λ (k : ℕ). take k (drop (node * width) wide)) q
 
 -- ---- what each call asks, and what is left
 pad_big : pad ≡ 4294967295
@@ -41,15 +37,15 @@ rises_none l = record { fits = omega arith; asc = none }
 
 module _ {f : Merging} {node width : ℕ} (r : Ready f) (h : node < f.n) (thin : width ≤ widest) where
   -- `seats` is where the code found that the seats begin
-  module _ {seats : ℕ} (own s : ℕ) (v : seats ≡ seats_at f.n) (o : own ≡ node) (e : s ≡ get_or f.words (seats + own) 0) where
-    its_seat : s ≡ seat f.nodes node 0
+  module _ {seats : ℕ} (own : ℕ) (s : Option ℕ) (v : seats ≡ seats_at f.n) (o : own ≡ node) (e : place_word s ≡ get_or f.words (seats + own) 0) where
+    its_seat : place_word s ≡ seat f.nodes node 0
     its_seat =
         let here : seats + own ≡ seats_at f.n + node = omega arith in
         e ∙ ap (λ (k : ℕ). get_or f.words k 0) here ∙ r.seats node h
 
     pub base_asks : (size : ℕ) → node * width + width ≤ size
-        → ((f.n ≤ 65536) × (own < f.n) × (width ≤ widest) × (s ≤ 256))
-        × ((fresh_at f.n + s * fresh_width ≤ length f.words) × (own * width + width ≤ size))
+        → ((f.n ≤ 65536) × (own < f.n) × (width ≤ widest) × (place_word s ≤ 256))
+        × ((fresh_at f.n + place_word s * fresh_width ≤ length f.words) × (own * width + width ≤ size))
     base_asks size has =
         let a = r.few in
         let b = r.chains.laid.nodes in
