@@ -32,11 +32,8 @@ fn is_affected(words: &[u32], n: usize, nodes: &[u32], i: usize) -> bool
     ensures { result ≡ affected (listed_in (merging n nodes.now words.now)) i }
 {
     let seat = scratch::seats_at(n) + i;
-    if words[seat] != 0 {
-        return true;
-    }
     let head = scratch::heads_at(n) + i;
-    words[head] != 0
+    words[seat] != 0 || words[head] != 0
 }
 
 // The row of one affected node: its merged ids, pruned if they are more than the slack.
@@ -86,13 +83,10 @@ fn merge_rows(
     ensures { wide.new ≡ merged (setting (given g vectors.now)) wide.old
         (listed_in (merging g.n nodes.now words.now)) }
 {
-    let n = g.n;
-    let mut i = 0;
-    while i < n {
-        if is_affected(words, n, nodes, i) {
+    for i in 0..g.n {
+        if is_affected(words, g.n, nodes, i) {
             merge_row(g, vectors, nodes, i, wide, words, factors);
         }
-        i += 1;
     }
 }
 
