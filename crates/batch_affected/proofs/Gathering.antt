@@ -8,11 +8,11 @@ use Rattle.definition.specs.Tables.{pad, row, ids}
 use Rattle.definition.specs.Batch.{Setting, merged_ids}
 use Rattle.definition.specs.Slack.{slack}
 use Rattle.laws.specs.Listed.{fresh_width}
-use Rattle.laws.specs.Rising.{none}
+use Rattle.laws.specs.Rising.{Asc, none}
 use Rattle.scratch.specs.Layout.{widest, fresh_at, seats_at}
 use Rattle.given.specs.Fresh.{Merging, entries_of, listed_in}
 use Rattle.batch_ids.specs.Grown.{grown, wanted}
-use Rattle.batch_ids.specs.Says.{Rises, Grew}
+use Rattle.batch_ids.specs.Says.{Grew}
 use Rattle.batch_chains.specs.Last.{seat}
 use Rattle.batch_chains.specs.Says.{Chains, sources, NamingAdded, place_word}
 use Rattle.std.specs.Prelude.{Option}
@@ -31,9 +31,6 @@ base_wide wide node width =
 pad_big : pad ≡ 4294967295
 unfolding pad
 pad_big = refl
-
-rises_none : (l : List ℕ) → Rises l 0
-rises_none l = record { fits = omega arith; asc = none }
 
 module _ {f : Merging} {node width : ℕ} (r : Ready f) (h : node < f.n) (thin : width ≤ widest) where
   -- `seats` is where the code found that the seats begin
@@ -60,17 +57,15 @@ module _ {f : Merging} {node width : ℕ} (r : Ready f) (h : node < f.n) (thin :
       short : length bw ≤ widest
       short = let l = base-length f wide width own s thin in subst (λ (z : List ℕ). length z ≤ widest) (sym is) l
 
-      pub row_asks : (list : List ℕ) → merged_most ≤ length list → (0 + length bw ≤ length list) × Rises list 0
-      row_asks list k = let l = short in (omega arith, rises_none list)
+      pub row_asks : {l₀ : List ℕ} → l₀ ≡ [] → (length l₀ + length bw ≤ merged_most) × Asc l₀
+      row_asks e = let l = short in let none₀ = ap length e in (omega arith, subst Asc (sym e) none)
 
-      module _ {l₀ l₁ : List ℕ} {count : ℕ} (g : Grew bw node l₀ l₁ 0 count) where
-        pub naming_asks : merged_most ≤ length l₁
-            → ((node < f.n) × (length f.nodes ≤ 256) × (count + length f.nodes ≤ length l₁)) × (Chains f × Rises l₁ count)
-        naming_asks k =
-            let a = g.most in
-            let l = short in
-            let few = r.few in
-            ((h, few, omega arith), (r.chains, g.holds.rises))
+      module _ {l₀ l₁ : List ℕ} (empty : l₀ ≡ []) (g : Grew bw node l₀ l₁) where
+        few : length l₁ ≤ widest
+        few = let l = short in let none₀ = ap length empty in omega (arith, g.most)
+
+        pub naming_asks : ((node < f.n) × (length f.nodes ≤ 256) × (length l₁ + length f.nodes ≤ merged_most)) × (Chains f × Asc l₁)
+        naming_asks = let l = few in ((h, r.few, omega (arith, r.few)), (r.chains, g.holds.rises))
 
         -- the chain's nodes after the base's ids
         named : (st : Setting) → width ≡ slack st.degree
@@ -81,16 +76,16 @@ module _ {f : Merging} {node width : ℕ} (r : Ready f) (h : node < f.n) (thin :
             gathered f node (λ q. omega (arith, pad_big)) r.chains.laid.high st wide bw (λ p g q. let y = r.real p g in omega (arith, pad_big))
             (base_words_lem st f wide width node e s its_seat ∙ ap ids (sym eq))
 
-        pub all_gathered : {l₂ : List ℕ} {m : ℕ} → NamingAdded f node count l₁ l₂ m → Gathered f wide width node l₂ m
+        pub all_gathered : {l₂ : List ℕ} → NamingAdded f node l₁ l₂ → Gathered f wide width node l₂
         all_gathered a =
-            let b = g.most in
-            let c = a.most in
-            let l = short in
-            let few = r.few in
+            let l = few in
             record {
               is = λ st e. record {
-                is = a.holds.is ∙ ap (grown (wanted node (sources f node (entries_of f.nodes)))) g.holds.is ∙ named st e;
+                is =
+                    a.holds.is
+                    ∙ ap (grown (wanted node (sources f node (entries_of f.nodes)))) (g.holds.is ∙ ap (grown (wanted node bw)) empty)
+                    ∙ named st e;
                 rises = a.holds.rises;
               };
-              most = omega arith;
+              most = omega (arith, a.most, r.few);
             }

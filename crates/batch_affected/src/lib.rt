@@ -8,7 +8,9 @@ ghost use Rattle.scratch.specs.Layout.{widest, fresh_at};
 ghost use Rattle.given.specs.Fresh.{merging};
 ghost use Rattle.batch_chains.specs.Says.{place_word};
 ghost use Rattle.batch_affected.specs.Base.{base_words};
-ghost use Rattle.batch_affected.specs.Says.{merged_most, Ready, Gathered};
+ghost use Rattle.batch_affected.specs.Says.{Ready, Gathered};
+
+use arrayvec::ArrayVec;
 
 // How many merged ids a node can have: the words of its base, and the listed nodes.
 pub const MERGED: usize = 340;
@@ -38,24 +40,25 @@ pub fn base<'a>(
     }
 }
 
-// The merged ids of one node, rising: how many there are.
-pub fn gather_node<'a>(
-    words: &'a [u32],
-    wide: &'a [u32],
+// The merged ids of one node, rising.
+pub fn gather_node(
+    words: &[u32],
+    wide: &[u32],
     n: usize,
     nodes: &[u32],
     node: u32,
     slack: usize,
-    list: &mut [u32],
-) -> usize
-    requires node_lt_n { (node < n) × (slack ≤ widest) × (merged_most ≤ length list.old) × (node * slack + slack ≤ length wide.now) }
+) -> ArrayVec<u32, MERGED>
+    requires node_lt_n { (node < n) × (slack ≤ widest) × (node * slack + slack ≤ length wide.now) }
     requires ready { Ready (merging n nodes.now words.now) }
-    ensures { Gathered (merging n nodes.now words.now) wide.now slack node list.new result }
+    ensures { Gathered (merging n nodes.now words.now) wide.now slack node result.items }
 {
     let own = table::index_of(node);
     let at = scratch::seats_at(n) + own;
     let seat = batch_chains::place_in(words[at]);
     let row = base(words, wide, n, seat, own, slack);
-    let count = batch_ids::add_row(row, node, list, 0);
-    batch_chains::add_naming(words, n, nodes, node, list, count)
+    let mut ids = ArrayVec::new();
+    batch_ids::add_row(row, node, &mut ids);
+    batch_chains::add_naming(words, n, nodes, node, &mut ids);
+    ids
 }

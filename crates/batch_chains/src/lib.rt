@@ -3,11 +3,14 @@
 #![tactic(auto)]
 
 ghost use Rattle.std.specs.Prelude.{◌≡◌, ℕ, ◌+◌, ◌-◌, ◌≤◌, ◌<◌, length, get_or};
+ghost use Rattle.arrayvec.specs.ArrayVec.{array_vec_len};
+ghost use Rattle.laws.specs.Rising.{Asc};
 ghost use Rattle.laws.specs.Words.{Below};
 ghost use Rattle.scratch.specs.Layout.{heads_at, links_at, links_end, fresh_at};
 ghost use Rattle.given.specs.Fresh.{merging};
-ghost use Rattle.batch_ids.specs.Says.{Rises};
 ghost use Rattle.batch_chains.specs.Says.{Laid, OneLinked, Linked, Chains, NamingAdded, Seated, place_word};
+
+use arrayvec::ArrayVec;
 
 // The place that a word of heads, links or seats holds: none where it is 0.
 pub fn place_in(word: u32) -> Option<usize>
@@ -43,31 +46,28 @@ pub fn link_entries(words: &mut [u32], n: usize, m: usize)
     }
 }
 
-// All listed nodes whose fresh row names the node, put into a rising list: how many there are then.
-pub fn add_naming(
+// All listed nodes whose fresh row names the node, put into a rising list.
+pub fn add_naming<const N: usize>(
     words: &[u32],
     n: usize,
     nodes: &[u32],
     node: u32,
-    list: &mut [u32],
-    len: usize,
-) -> usize
-    requires node_lt_n { (node < n) × (length nodes.now ≤ 256) × (len + length nodes.now ≤ length list.old) }
+    list: &mut ArrayVec<u32, N>,
+)
+    requires node_lt_n { (node < n) × (length nodes.now ≤ 256) × (array_vec_len list.old + length nodes.now ≤ N) }
     requires chains { Chains (merging n nodes.now words.now) }
-    requires rises { Rises list.old len }
-    ensures { NamingAdded (merging n nodes.now words.now) node len list.old list.new result }
+    requires rises { Asc list.old.items }
+    ensures { NamingAdded (merging n nodes.now words.now) node list.old.items list.new.items }
 {
     let own = table::index_of(node);
     let head = scratch::heads_at(n) + own;
     let links = scratch::links_at(n);
     let mut next = place_in(words[head]);
-    let mut count = len;
     while let Some(e) = next {
         let p = e / scratch::FRESH_WIDTH;
-        count = batch_ids::add_word(list, count, nodes[p], node);
+        batch_ids::add_word(list, nodes[p], node);
         next = place_in(words[links + e]);
     }
-    count
 }
 
 // One more than the place of each listed node, from slots that are all 0; at a repeated one the first place.

@@ -51,18 +51,17 @@ fn merge_row(
     ensures { RowMerged (given g vectors.now) (merging g.n nodes.now words.now)
         i wide.old wide.new }
 {
-    let mut ids = [0u32; batch_affected::MERGED];
-    let mut dists = [0u32; batch_affected::MERGED];
     let node = table::word_of(i);
-    let count = batch_affected::gather_node(words, wide, g.n, nodes, node, g.slack, &mut ids);
+    let ids = batch_affected::gather_node(words, wide, g.n, nodes, node, g.slack);
+    let mut dists = [0u32; batch_affected::MERGED];
     prune_fit::fit_row(
         g,
         vectors,
         node,
         g.slack,
         wide,
-        &ids[0..count],
-        &mut dists[0..count],
+        &ids,
+        &mut dists[..ids.len()],
         factors,
     );
 }
