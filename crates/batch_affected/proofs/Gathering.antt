@@ -8,48 +8,41 @@ use Rattle.definition.specs.Tables.{pad, row, ids}
 use Rattle.definition.specs.Batch.{Setting, merged_ids}
 use Rattle.definition.specs.Slack.{slack}
 use Rattle.laws.specs.Listed.{fresh_width}
-use Rattle.laws.specs.Rising.{none}
-use Rattle.scratch.specs.Layout.{widest, fresh_at, fresh_row_at, seats_at}
-use Rattle.given.specs.Fresh.{Merging, entries_of, fresh_row, listed_in}
+use Rattle.laws.specs.Rising.{Asc, none}
+use Rattle.scratch.specs.Layout.{widest, fresh_at, seats_at}
+use Rattle.given.specs.Fresh.{Merging, entries_of, listed_in}
 use Rattle.batch_ids.specs.Grown.{grown, wanted}
-use Rattle.batch_ids.specs.Says.{Rises, Grew}
+use Rattle.batch_ids.specs.Says.{Grew}
 use Rattle.batch_chains.specs.Last.{seat}
-use Rattle.batch_chains.specs.Says.{Chains, sources, NamingAdded}
-use Rattle.batch_affected.specs.Base.{base_words, base_of, words_wide, words_listed, base_words_lem, base-length, seat_within}
+use Rattle.batch_chains.specs.Says.{Chains, sources, NamingAdded, place_word}
+use Rattle.std.specs.Prelude.{Option}
+use Rattle.batch_affected.specs.Base.{base_of, base_words_lem, base-length, seat_within}
 use Rattle.batch_affected.specs.Naming.{gathered}
 use Rattle.batch_affected.specs.Says.{merged_most, Ready, Gathered}
 
 -- ---- the row that is read
-pub base_wide : (wide fresh : List ℕ) (s node width : ℕ) → s ≡ 0
-    → take ((node * width + width) - node * width) (drop (node * width) wide) ≡ base_words s fresh (row width wide node)
+pub base_wide : (wide : List ℕ) (node width : ℕ) → take ((node * width + width) - node * width) (drop (node * width) wide) ≡ row width wide node
 unfolding row
-base_wide wide fresh s node width e =
+base_wide wide node width =
     let q : (node * width + width) - node * width ≡ width = omega arith in
-    ap (λ (k : ℕ). take k (drop (node * width) wide)) q ∙ sym (words_wide fresh e)
-
-pub base_fresh : (words wide : List ℕ) (n s a : ℕ) → (s ≡ 0 → ⊥) → a ≡ fresh_row_at n (s - 1)
-    → take ((a + fresh_width) - a) (drop a words) ≡ base_words s (fresh_row n (s - 1) words) wide
-base_fresh words wide n s a h e = ap (λ (k : ℕ). take ((k + fresh_width) - k) (drop k words)) e ∙ sym (words_listed wide h)
+    ap (λ (k : ℕ). take k (drop (node * width) wide)) q
 
 -- ---- what each call asks, and what is left
 pad_big : pad ≡ 4294967295
 unfolding pad
 pad_big = refl
 
-rises_none : (l : List ℕ) → Rises l 0
-rises_none l = record { fits = omega arith; asc = none }
-
 module _ {f : Merging} {node width : ℕ} (r : Ready f) (h : node < f.n) (thin : width ≤ widest) where
   -- `seats` is where the code found that the seats begin
-  module _ {seats : ℕ} (own s : ℕ) (v : seats ≡ seats_at f.n) (o : own ≡ node) (e : s ≡ get_or f.words (seats + own) 0) where
-    its_seat : s ≡ seat f.nodes node 0
+  module _ {seats : ℕ} (own : ℕ) (s : Option ℕ) (v : seats ≡ seats_at f.n) (o : own ≡ node) (e : place_word s ≡ get_or f.words (seats + own) 0) where
+    its_seat : place_word s ≡ seat f.nodes node 0
     its_seat =
         let here : seats + own ≡ seats_at f.n + node = omega arith in
         e ∙ ap (λ (k : ℕ). get_or f.words k 0) here ∙ r.seats node h
 
     pub base_asks : (size : ℕ) → node * width + width ≤ size
-        → ((f.n ≤ 65536) × (own < f.n) × (width ≤ widest) × (s ≤ 256))
-        × ((fresh_at f.n + s * fresh_width ≤ length f.words) × (own * width + width ≤ size))
+        → ((f.n ≤ 65536) × (own < f.n) × (width ≤ widest) × (place_word s ≤ 256))
+        × ((fresh_at f.n + place_word s * fresh_width ≤ length f.words) × (own * width + width ≤ size))
     base_asks size has =
         let a = r.few in
         let b = r.chains.laid.nodes in
@@ -64,17 +57,15 @@ module _ {f : Merging} {node width : ℕ} (r : Ready f) (h : node < f.n) (thin :
       short : length bw ≤ widest
       short = let l = base-length f wide width own s thin in subst (λ (z : List ℕ). length z ≤ widest) (sym is) l
 
-      pub row_asks : (list : List ℕ) → merged_most ≤ length list → (0 + length bw ≤ length list) × Rises list 0
-      row_asks list k = let l = short in (omega arith, rises_none list)
+      pub row_asks : {l₀ : List ℕ} → l₀ ≡ [] → (length l₀ + length bw ≤ merged_most) × Asc l₀
+      row_asks e = let l = short in let none₀ = ap length e in (omega arith, subst Asc (sym e) none)
 
-      module _ {l₀ l₁ : List ℕ} {count : ℕ} (g : Grew bw node l₀ l₁ 0 count) where
-        pub naming_asks : merged_most ≤ length l₁
-            → ((node < f.n) × (length f.nodes ≤ 256) × (count + length f.nodes ≤ length l₁)) × (Chains f × Rises l₁ count)
-        naming_asks k =
-            let a = g.most in
-            let l = short in
-            let few = r.few in
-            ((h, few, omega arith), (r.chains, g.holds.rises))
+      module _ {l₀ l₁ : List ℕ} (empty : l₀ ≡ []) (g : Grew bw node l₀ l₁) where
+        few : length l₁ ≤ widest
+        few = let l = short in let none₀ = ap length empty in omega (arith, g.most)
+
+        pub naming_asks : ((node < f.n) × (length f.nodes ≤ 256) × (length l₁ + length f.nodes ≤ merged_most)) × (Chains f × Asc l₁)
+        naming_asks = let l = few in ((h, r.few, omega (arith, r.few)), (r.chains, g.holds.rises))
 
         -- the chain's nodes after the base's ids
         named : (st : Setting) → width ≡ slack st.degree
@@ -85,16 +76,16 @@ module _ {f : Merging} {node width : ℕ} (r : Ready f) (h : node < f.n) (thin :
             gathered f node (λ q. omega (arith, pad_big)) r.chains.laid.high st wide bw (λ p g q. let y = r.real p g in omega (arith, pad_big))
             (base_words_lem st f wide width node e s its_seat ∙ ap ids (sym eq))
 
-        pub all_gathered : {l₂ : List ℕ} {m : ℕ} → NamingAdded f node count l₁ l₂ m → Gathered f wide width node l₂ m
+        pub all_gathered : {l₂ : List ℕ} → NamingAdded f node l₁ l₂ → Gathered f wide width node l₂
         all_gathered a =
-            let b = g.most in
-            let c = a.most in
-            let l = short in
-            let few = r.few in
+            let l = few in
             record {
               is = λ st e. record {
-                is = a.holds.is ∙ ap (grown (wanted node (sources f node (entries_of f.nodes)))) g.holds.is ∙ named st e;
+                is =
+                    a.holds.is
+                    ∙ ap (grown (wanted node (sources f node (entries_of f.nodes)))) (g.holds.is ∙ ap (grown (wanted node bw)) empty)
+                    ∙ named st e;
                 rises = a.holds.rises;
               };
-              most = omega arith;
+              most = omega (arith, a.most, r.few);
             }

@@ -1,9 +1,9 @@
 -- The base of a node: its seat says whether it was listed, and where its fresh row lies.
 use Prim.Native.Nat.{ℕ, zero, suc, ◌+◌, ◌-◌, ◌*◌, ◌≤◌}
 use native.Mathlib.Omega.{arith}
-use Rattle.std.specs.Prelude.{◌≡◌, refl, Bool, true, false, cond, List, [], ◌∷◌, eqb, length, take, drop}
+use Rattle.std.specs.Prelude.{◌≡◌, refl, Bool, true, false, cond, Option, None, Some, List, [], ◌∷◌, eqb, length, take, drop}
 use Rattle.std.proofs.Math.Path.{sym, ap}
-use Rattle.std.proofs.Common.{◌∙◌, eq-eqb, ne_eqb, length-take, drop-drop}
+use Rattle.std.proofs.Common.{◌∙◌, length-take, drop-drop}
 use Rattle.definition.specs.Tables.{ids, row}
 use Rattle.definition.specs.Batch.{Setting, base, wide_row, wide_ids}
 use Rattle.definition.specs.Slack.{slack}
@@ -11,6 +11,7 @@ use Rattle.laws.specs.Listed.{fresh_width, listed_at}
 use Rattle.scratch.specs.Layout.{widest, fresh_at, fresh_row_at}
 use Rattle.given.specs.Fresh.{Merging, fresh_row, listed_in}
 use Rattle.batch_chains.specs.Last.{seat}
+use Rattle.batch_chains.specs.Says.{place_word}
 
 seat-above : (us : List ℕ) (i k x : ℕ) → seat us i k ≡ suc x → k ≤ x
 unfolding seat
@@ -50,21 +51,14 @@ base-at g wide (u ∷ us) t i k p e = go (eqb i u) p (λ r q. base-at g wide us 
         let z : fresh_width + r * fresh_width ≡ suc r * fresh_width = omega arith in
         ih r (q ∙ omega arith) ∙ ap (λ (l : List ℕ). ids (take fresh_width l)) (drop-drop (r * fresh_width) fresh_width t ∙ ap (λ (j : ℕ). drop j t) z)
 
--- the words of the base, as the code reads them: `place` is one more than the node's place among the listed, 0 if it was not listed
-unfoldable pub base_words : ℕ → List ℕ → List ℕ → List ℕ
-base_words place fresh wide = cond (eqb place 0) wide fresh
-
-pub words_wide : (fresh : List ℕ) {place : ℕ} {wide : List ℕ} → place ≡ 0 → base_words place fresh wide ≡ wide
-unfolding base_words
-words_wide fresh {place} e = rw (eq-eqb place 0 e) refl
-
-pub words_listed : (wide : List ℕ) {place : ℕ} {fresh : List ℕ} → (place ≡ 0 → ⊥) → base_words place fresh wide ≡ fresh
-unfolding base_words
-words_listed wide {place} n = rw (ne_eqb place 0 n) refl
+-- the words of the base of a node, by its place among the listed; `wide` is its row of the wide table
+abbrev pub base_words : Option ℕ → ℕ → List ℕ → List ℕ → List ℕ
+base_words None n words wide = wide
+base_words (Some p) n words wide = fresh_row n p words
 
 -- the base's words for a node of f that has this place
-abbrev pub base_of : Merging → List ℕ → ℕ → ℕ → ℕ → List ℕ
-base_of f wide width node place = base_words place (fresh_row f.n (place - 1) f.words) (row width wide node)
+abbrev pub base_of : Merging → List ℕ → ℕ → ℕ → Option ℕ → List ℕ
+base_of f wide width node place = base_words place f.n f.words (row width wide node)
 
 module _ (g : Setting) (f : Merging) (wide : List ℕ) (width node : ℕ) (slack-is : width ≡ slack g.degree) where
   -- its fresh row as `listed_at` cuts it off
@@ -75,16 +69,14 @@ module _ (g : Setting) (f : Merging) (wide : List ℕ) (width node : ℕ) (slack
       ap (take fresh_width) (drop-drop (p * fresh_width) (fresh_at f.n) f.words ∙ ap (λ (k : ℕ). drop k f.words) a)
       ∙ ap (λ (k : ℕ). take k (drop (fresh_row_at f.n p) f.words)) w
 
-  pub base_words_lem : (place : ℕ) → place ≡ seat f.nodes node 0 → base g wide (listed_in f) node ≡ ids (base_of f wide width node place)
+  pub base_words_lem : (place : Option ℕ) → place_word place ≡ seat f.nodes node 0 → base g wide (listed_in f) node ≡ ids (base_of f wide width node place)
   unfolding wide_ids wide_row
-  base_words_lem zero e =
+  base_words_lem None e =
       base-none g wide f.nodes (drop (fresh_at f.n) f.words) node 0 (sym e)
       ∙ ap (λ (k : ℕ). ids (row k wide node)) (sym slack-is)
-      ∙ ap ids (sym (words_wide _ refl))
-  base_words_lem (suc p) e =
-      let q : p ≡ suc p - 1 = omega arith in
+  base_words_lem (Some p) e =
       base-at g wide f.nodes (drop (fresh_at f.n) f.words) node 0 p (sym e ∙ omega arith)
-      ∙ ap ids (row_cut p ∙ ap (λ (k : ℕ). fresh_row f.n k f.words) q ∙ sym (words_listed _ (λ z. omega arith)))
+      ∙ ap ids (row_cut p)
 
 seat_most : (us : List ℕ) (i k : ℕ) → seat us i k ≤ k + length us
 unfolding seat
@@ -98,13 +90,10 @@ seat_most (u ∷ us) i k = go (eqb i u) (seat_most us i (suc k))
 pub seat_within : (us : List ℕ) (i : ℕ) → seat us i 0 ≤ length us
 seat_within us i = let h = seat_most us i 0 in omega arith
 
-pub base-length : (f : Merging) (wide : List ℕ) (width node place : ℕ) → width ≤ widest → length (base_of f wide width node place) ≤ widest
-unfolding base_words row
-base-length f wide width node place h = go (eqb place 0)
-  where
-    go : (b : Bool) → length (cond b (row width wide node) (fresh_row f.n (place - 1) f.words)) ≤ widest
-    go true = let l = length-take width (drop (node * width) wide) in omega arith
-    go false =
-        let at = fresh_row_at f.n (place - 1) in
-        let l = length-take (at + fresh_width - at) (drop at f.words) in
-        omega arith
+pub base-length : (f : Merging) (wide : List ℕ) (width node : ℕ) (place : Option ℕ) → width ≤ widest → length (base_of f wide width node place) ≤ widest
+unfolding row
+base-length f wide width node None h = let l = length-take width (drop (node * width) wide) in omega arith
+base-length f wide width node (Some p) h =
+    let at = fresh_row_at f.n p in
+    let l = length-take (at + fresh_width - at) (drop at f.words) in
+    omega arith

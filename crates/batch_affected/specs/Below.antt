@@ -1,5 +1,5 @@
 -- Every merged id is an entry, where the node's row, the fresh rows and the listed nodes hold only entries.
-use Rattle.std.specs.Prelude.{ℕ, zero, suc, ◌+◌, ◌-◌, ◌*◌, ◌≤◌, ◌<◌, ◌≡◌, refl, ◌⊎◌, eqb, length, get_or, take, drop}
+use Rattle.std.specs.Prelude.{ℕ, zero, suc, ◌+◌, ◌-◌, ◌*◌, ◌≤◌, ◌<◌, ◌≡◌, refl, ◌⊎◌, Option, None, Some, eqb, length, get_or, take, drop}
 use Rattle.std.proofs.Common.{arith, sym, ap, ◌∙◌, subst, inl, inr}
 use Rattle.std.proofs.Math.Bool.{not}
 use mathlib.Core.List.Memᴰ.{append_cases as split}
@@ -14,12 +14,22 @@ use Rattle.laws.specs.Words.{padding, Searchable, Below, ids-below, searchable_s
 use Rattle.scratch.specs.Layout.{fresh_at, fresh_row_at}
 use Rattle.given.specs.Fresh.{Merging, entry, entries_of, fresh_row, listed_in}
 use Rattle.batch_chains.specs.Last.{seat}
-use Rattle.batch_affected.specs.Base.{base_of, base_words_lem, words_wide, words_listed, seat_within}
+use Rattle.batch_chains.specs.Says.{place_word}
+use Rattle.batch_affected.specs.Base.{base_of, base_words_lem, seat_within}
 use Rattle.batch_affected.specs.Naming.{naming_to}
 
 -- each entry of the fresh rows is padding or an id below n
 abbrev pub NamesBelow : Merging → Type 0
 NamesBelow f = (e : ℕ) → e < entries_of f.nodes → (entry f.n f.words e ≡ padding → ⊥) → entry f.n f.words e < f.n
+
+-- the place that a word holds
+abbrev placed : ℕ → Option ℕ
+placed zero = None
+placed (suc p) = Some p
+
+placed-is : (s : ℕ) → place_word (placed s) ≡ s
+placed-is zero = refl
+placed-is (suc p) = refl
 
 module _ (g : Setting) (f : Merging) (wide : List ℕ) (width node : ℕ) (slack-is : width ≡ slack g.degree) (own : Searchable f.n (row width wide node))
     (real : Below f.n f.nodes) (named : NamesBelow f) where
@@ -34,18 +44,18 @@ module _ (g : Setting) (f : Merging) (wide : List ℕ) (width node : ℕ) (slack
       subst (λ (x : ℕ). get_or f.words x 0 < f.n) e
       (named (p * fresh_width + k) (omega arith) (λ z. q (ap (λ (x : ℕ). get_or f.words x 0) (sym e) ∙ z)))))
 
-  base_row : (s : ℕ) → s ≤ length f.nodes → Searchable f.n (base_of f wide width node s)
-  base_row zero h = subst (Searchable f.n) (sym (words_wide _ refl)) own
-  base_row (suc p) h =
-      let q : p ≡ suc p - 1 = omega arith in
-      subst (Searchable f.n) (sym (words_listed _ (λ z. omega arith)))
-      (subst (λ (k : ℕ). Searchable f.n (fresh_row f.n k f.words)) q (fresh_row_lem p (omega arith)))
+  base_row : (place : Option ℕ) → place_word place ≤ length f.nodes → Searchable f.n (base_of f wide width node place)
+  base_row None h = own
+  base_row (Some p) h = fresh_row_lem p (omega arith)
 
   base_below : (z : ℕ) → Mem z (base g wide (listed_in f) node) → z < f.n
-  base_below z m =
-      let s = seat f.nodes node 0 in
-      ids-below f.n (base_of f wide width node s) (base_row s (seat_within f.nodes node)) z
-      (subst (Mem z) (base_words_lem g f wide width node slack-is s refl) m)
+  base_below z m = at (placed (seat f.nodes node 0)) (placed-is (seat f.nodes node 0))
+    where
+      at : (place : Option ℕ) → place_word place ≡ seat f.nodes node 0 → z < f.n
+      at place e =
+          let w = seat_within f.nodes node in
+          ids-below f.n (base_of f wide width node place) (base_row place (omega arith)) z
+          (subst (Mem z) (base_words_lem g f wide width node slack-is place e) m)
 
   naming_below : (z : ℕ) → Mem z (naming (listed_in f) node) → z < f.n
   naming_below z m =

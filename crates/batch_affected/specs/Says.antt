@@ -20,7 +20,7 @@ pub record Ready (f : Merging) : Type 0 where
   pub chains : Chains f
   pub seats : (i : ℕ) → i < f.n → get_or f.words (seats_at f.n + i) 0 ≡ seat f.nodes i 0
 
--- the merged ids of one node, whatever else the setting says: the first r of the list
-pub record Gathered (f : Merging) (wide : List ℕ) (width node : ℕ) (l : List ℕ) (r : ℕ) : Type 0 where
-  pub is : (g : Setting) → width ≡ slack g.degree → Holds l r (merged_ids g wide (listed_in f) node)
-  pub most : r ≤ merged_most
+-- the merged ids of one node, whatever else the setting says
+pub record Gathered (f : Merging) (wide : List ℕ) (width node : ℕ) (l : List ℕ) : Type 0 where
+  pub is : (g : Setting) → width ≡ slack g.degree → Holds l (merged_ids g wide (listed_in f) node)
+  pub most : length l ≤ merged_most

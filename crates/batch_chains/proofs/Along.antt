@@ -4,35 +4,27 @@ use Prim.Native.Nat.{ℕ, zero, suc, ◌+◌, ◌-◌, ◌/◌, ◌≤◌, ◌<�
 use native.Mathlib.Omega.{arith}
 use mathlib.Core.Path.{◌≡◌, refl, sym, ap, ◌∙◌}
 use mathlib.Core.List.{List, [], ◌∷◌, map}
-use lib.ListN.{length, get_or, take}
+use lib.ListN.{length, get_or}
 use Rattle.laws.specs.Listed.{fresh_width}
 use Rattle.scratch.specs.Layout.{heads_at, links_at}
 use Rattle.given.specs.Fresh.{Merging, entry, entries_of}
 use Rattle.batch_ids.specs.Grown.{grown, wanted, grown_cons}
-use Rattle.batch_ids.specs.Says.{Rises, Grew}
+use Rattle.batch_ids.specs.Says.{Grew}
+use Rattle.laws.specs.Rising.{Asc}
 use Rattle.batch_chains.specs.Last.{last, last_most, last_is, named_none, named_hit, named_last}
 use Rattle.batch_chains.specs.Says.{Chains, sources, NamingAdded}
 
--- a list of which the first `len` count
-pub record Front : Type 0 where
-  pub list : List ℕ
-  pub len : ℕ
-
-abbrev pub front : List ℕ → ℕ → Front
-front list len = record { list = list; len = len }
-
 -- the listed nodes that name the node in the first e entries, put into a list
-abbrev with : Merging → ℕ → ℕ → Front → List ℕ
-with f node e l = grown (wanted node (sources f node e)) (take l.len l.list)
+abbrev with : Merging → ℕ → ℕ → List ℕ → List ℕ
+with f node e l = grown (wanted node (sources f node e)) l
 
 -- what is left to be walked, from e - 1 down
-pub record Along (f : Merging) (node : ℕ) (l₀ l : Front) (e : ℕ) : Type 0 where
+pub record Along (f : Merging) (node : ℕ) (l₀ l : List ℕ) (e : ℕ) : Type 0 where
   pub within : e ≤ entries_of f.nodes
   pub hit : (a : ℕ) → suc a ≡ e → entry f.n f.words a ≡ node
-  pub rises : Rises l.list l.len
-  pub size : length l.list ≡ length l₀.list
+  pub rises : Asc l
   pub same : with f node e l ≡ with f node (entries_of f.nodes) l₀
-  pub most : l.len + (e + (fresh_width - 1)) / fresh_width ≤ l₀.len + length f.nodes
+  pub most : length l + (e + (fresh_width - 1)) / fresh_width ≤ length l₀ + length f.nodes
 
 module _ {f : Merging} {node : ℕ} (own : node < f.n) (ch : Chains f) where
   -- entry a of the fresh rows
@@ -55,8 +47,8 @@ module _ {f : Merging} {node : ℕ} (own : node < f.n) (ch : Chains f) where
   unfolding sources
   sources_none = ap (map whose) (named_none at node)
 
-  pub along_start : {l₀ : Front} {e heads o : ℕ} → heads ≡ heads_at f.n → o ≡ node → e ≡ get_or f.words (heads + o) 0
-      → Rises l₀.list l₀.len → Along f node l₀ l₀ e
+  pub along_start : {l₀ : List ℕ} {e heads o : ℕ} → heads ≡ heads_at f.n → o ≡ node → e ≡ get_or f.words (heads + o) 0
+      → Asc l₀ → Along f node l₀ l₀ e
   along_start {l₀} {e} {heads} {o} v is q s =
       let here : heads + o ≡ heads_at f.n + node = omega arith in
       let k : e ≡ last at node (entries_of f.nodes) = q ∙ ap (λ (k : ℕ). get_or f.words k 0) here ∙ ch.chained.heads node own in
@@ -65,8 +57,7 @@ module _ {f : Merging} {node : ℕ} (own : node < f.n) (ch : Chains f) where
         within = omega arith;
         hit = λ a z. last_is at node (entries_of f.nodes) a (z ∙ k);
         rises = s;
-        size = refl;
-        same = ap (λ (z : List ℕ). grown (wanted node z) (take l₀.len l₀.list)) (ap (sources f node) k ∙ sources_last (entries_of f.nodes));
+        same = ap (λ (z : List ℕ). grown (wanted node z) l₀) (ap (sources f node) k ∙ sources_last (entries_of f.nodes));
         most = omega arith;
       }
 
@@ -82,7 +73,7 @@ module _ {f : Merging} {node : ℕ} (own : node < f.n) (ch : Chains f) where
       omega arith
 
   -- one entry further: the node of its row went in
-  module _ {l₀ l : Front} {e a e' links : ℕ} (s : Along f node l₀ l e) (z : suc a ≡ e) (v : links ≡ links_at f.n)
+  module _ {l₀ l : List ℕ} {e a e' links : ℕ} (s : Along f node l₀ l e) (z : suc a ≡ e) (v : links ≡ links_at f.n)
       (q : e' ≡ get_or f.words (links + a) 0) where
     here : at a ≡ node
     here = s.hit a z
@@ -93,24 +84,23 @@ module _ {f : Merging} {node : ℕ} (own : node < f.n) (ch : Chains f) where
         let is = here in
         q ∙ ap (λ (k : ℕ). get_or f.words (k + a) 0) v ∙ ch.chained.nexts a (omega arith) (omega arith) ∙ ap (λ (i : ℕ). last at i a) here
 
-    pub along_on : {l' : List ℕ} {r : ℕ} → Grew (whose a ∷ []) node l.list l' l.len r → length l' ≡ length l.list → Along f node l₀ (front l' r) e'
-    along_on {l'} {r} g size =
+    pub along_on : {l' : List ℕ} → Grew (whose a ∷ []) node l l' → Along f node l₀ l' e'
+    along_on {l'} g =
         let m = s.most in
         let wi = s.within in
         let le = last_most at node a in
         let k = next in
         let er = earlier a e' (omega arith) here next in
-        let gm : r ≤ l.len + 1 = g.most in
+        let gm : length l' ≤ length l + 1 = g.most in
         record {
           within = omega arith;
           hit = λ b v. last_is at node a b (v ∙ next);
           rises = g.holds.rises;
-          size = size ∙ s.size;
           same =
-              ap (λ (i : List ℕ). grown (wanted node i) (take r l')) (ap (sources f node) next ∙ sources_last a)
+              ap (λ (i : List ℕ). grown (wanted node i) l') (ap (sources f node) next ∙ sources_last a)
               ∙ ap (grown (wanted node (sources f node a))) g.holds.is
-              ∙ sym (grown_cons node (whose a) (sources f node a) (take l.len l.list))
-              ∙ ap (λ (i : List ℕ). grown (wanted node i) (take l.len l.list)) (sym (sources_hit a here) ∙ ap (sources f node) z)
+              ∙ sym (grown_cons node (whose a) (sources f node a) l)
+              ∙ ap (λ (i : List ℕ). grown (wanted node i) l) (sym (sources_hit a here) ∙ ap (sources f node) z)
               ∙ s.same;
           most = omega arith;
         }
@@ -123,14 +113,13 @@ module _ {f : Merging} {node : ℕ} (own : node < f.n) (ch : Chains f) where
   unfolding grown wanted Rattle.batch_ids.specs.Grown.others Rattle.definition.specs.Tables.ids Rattle.definition.specs.Lists.keep
   nothing acc = refl
 
-  pub along_end : {l₀ l : Front} {e : ℕ} → Along f node l₀ l e → (0 < e → ⊥) → NamingAdded f node l₀.len l₀.list l.list l.len
-  along_end {l₀} {l} {e} s h =
-      let q : e ≡ 0 = omega arith in
+  pub along_end : {l₀ l : List ℕ} {e : ℕ} → Along f node l₀ l e → e ≡ 0 → NamingAdded f node l₀ l
+  along_end {l₀} {l} {e} s q =
       let m = s.most in
       let left : sources f node e ≡ [] = ap (sources f node) q ∙ sources_none in
       record {
         holds = record {
-          is = sym (nothing (take l.len l.list)) ∙ ap (λ (i : List ℕ). grown (wanted node i) (take l.len l.list)) (sym left) ∙ s.same;
+          is = sym (nothing l) ∙ ap (λ (i : List ℕ). grown (wanted node i) l) (sym left) ∙ s.same;
           rises = s.rises;
         };
         most = omega arith;

@@ -1,15 +1,15 @@
 -- One entry more in the chains, and one node more in its seat. An entry is read before it is linked, and links and heads lie below the fresh rows: so each
 -- entry reads as it did at first, and putting entry e at the front of its id's chain turns `last` of e entries into `last` of e + 1.
-use Prim.Native.Nat.{ℕ, zero, suc, ◌+◌, ◌-◌, ◌≤◌, ◌<◌}
+use Prim.Native.Nat.{ℕ, suc, ◌+◌, ◌≤◌, ◌<◌}
 use native.Mathlib.Omega.{arith}
 use mathlib.Core.Path.{◌≡◌, refl, sym, ap, ◌∙◌, subst}
 use mathlib.Core.Logic.{◌⊎◌, inl, inr}
 use mathlib.Core.Bool.{Bool, true, false}
-use mathlib.Core.List.{List, ◌∷◌}
+use mathlib.Core.List.{List, [], ◌∷◌, ◌++◌}
 use borrow.Author.Tests.{eqb-true, eqb-false, ltb-true, ltb-false}
 use lib.Dec.{eqb, ltb}
-use lib.ListN.{length, get_or, drop, set, length-set, drop_of_length-le}
-use lib.Seq.{get_or-set_same, get_or-set_other, drop-cons}
+use lib.ListN.{length, get_or, take, drop, set, length-set, length-append, drop_of_length-le}
+use lib.Seq.{get_or-set_same, get_or-set_other, drop-cons, get_or-append_seam, get_or-take, take_at, take_all, take-take}
 use Rattle.laws.specs.Words.{Below}
 use Rattle.scratch.specs.Layout.{heads_at, links_at, links_end, fresh_at}
 use Rattle.given.specs.Fresh.{entry}
@@ -178,55 +178,59 @@ module _ {n m : ℕ} {w₀ : List ℕ} (laid : Laid n m (length w₀)) where
       let z = s.size in
       omega arith
 
--- ---- seats, from the last place to the first
-pub record Seating (nodes s₀ slots : List ℕ) (p : ℕ) : Type 0 where
-  pub most : p ≤ length nodes
+-- ---- seats, from the last place to the first, where `rest` is still to come
+pub record Seating (nodes s₀ slots rest : List ℕ) : Type 0 where
+  pub most : length rest ≤ length nodes
+  pub begins : rest ≡ take (length rest) nodes
   pub size : length slots ≡ length s₀
-  pub seats : (i : ℕ) → i < length s₀ → get_or slots i 0 ≡ seat (drop p nodes) i p
+  pub seats : (i : ℕ) → i < length s₀ → get_or slots i 0 ≡ seat (drop (length rest) nodes) i (length rest)
 
 module _ {nodes s₀ : List ℕ} where
-  pub seating_start : {p : ℕ} → p ≡ length nodes → ((i : ℕ) → i < length s₀ → get_or s₀ i 0 ≡ 0) → Seating nodes s₀ s₀ p
-  seating_start {p} e z =
+  pub seating_start : ((i : ℕ) → i < length s₀ → get_or s₀ i 0 ≡ 0) → Seating nodes s₀ s₀ nodes
+  seating_start z =
       record {
         most = omega arith;
+        begins = sym (take_all (length nodes) nodes (omega arith));
         size = refl;
-        seats = λ i h. z i h ∙ sym (ap (λ (l : List ℕ). seat l i p) (drop_of_length-le nodes {i = p} (omega arith)) ∙ seat-none i p);
+        seats = λ i h. z i h ∙ sym (ap (λ (l : List ℕ). seat l i (length nodes)) (drop_of_length-le nodes {i = length nodes} (omega arith)) ∙ seat-none i (length nodes));
       }
 
-  pub seating_on : (p : ℕ) {slots : List ℕ} {u : ℕ} → Seating nodes s₀ slots p → 0 < p → u ≡ get_or nodes (p - 1) 0 → u < length s₀
-      → Seating nodes s₀ (set slots u p) (p - 1)
-  seating_on zero {slots} {u} s h e g = absurd (omega arith)
-  seating_on (suc q) {slots} {u} s h e₀ g =
-      let k : suc q - 1 ≡ q = omega arith in
-      let e : u ≡ get_or nodes q 0 = e₀ ∙ ap (λ (j : ℕ). get_or nodes j 0) k in
+  pub seating_on : {slots rest rest' : List ℕ} {p u x : ℕ} → Below (length s₀) nodes → Seating nodes s₀ slots rest → rest ≡ rest' ++ x ∷ [] → p ≡ length rest' → u ≡ x
+      → Seating nodes s₀ (set slots u (p + 1)) rest'
+  seating_on {slots} {rest} {rest'} {p} {u} {x} b s e is own =
+      let q = length rest' in
+      let more : length rest ≡ suc q = ap (λ (l : List ℕ). length l) e ∙ length-append rest' (x ∷ []) ∙ omega arith in
       let m = s.most in
-      rw k record { most = omega arith; size = length-set slots u (suc q) ∙ s.size; seats = λ i v. at e i v (differ i u) }
+      let node : u ≡ get_or nodes q 0 =
+      own
+      ∙ sym (get_or-append_seam rest' x [] 0)
+      ∙ ap (λ (l : List ℕ). get_or l q 0) (sym e ∙ s.begins)
+      ∙ get_or-take (length rest) nodes q 0 (omega arith) in
+      let z = b q (omega arith) in
+      let one : p + 1 ≡ suc q = omega arith in
+      rw one record {
+        most = omega arith;
+        begins = sym (take_at rest' (x ∷ []) q refl) ∙ ap (take q) (sym e ∙ s.begins) ∙ take-take q (length rest) nodes (omega arith);
+        size = length-set slots u (suc q) ∙ s.size;
+        seats = λ i v. at q more node (omega arith) i v (differ i u);
+      }
     where
-      cut : q < length nodes → (i : ℕ) → seat (drop q nodes) i q ≡ seat (get_or nodes q 0 ∷ drop (suc q) nodes) i q
-      cut l i = ap (λ (l : List ℕ). seat l i q) (drop-cons nodes q 0 l)
-
-      at : u ≡ get_or nodes q 0 → (i : ℕ) → i < length s₀ → (i ≡ u) ⊎ (i ≡ u → ⊥) → get_or (set slots u (suc q)) i 0 ≡ seat (drop q nodes) i q
-      at e i v (inl z) =
+      at : (q : ℕ) → length rest ≡ suc q → u ≡ get_or nodes q 0 → u < length s₀ → (i : ℕ) → i < length s₀ → (i ≡ u) ⊎ (i ≡ u → ⊥)
+          → get_or (set slots u (suc q)) i 0 ≡ seat (drop q nodes) i q
+      at q more node g i v (inl z) =
           let m = s.most in
           let y = s.size in
           ap (λ (j : ℕ). get_or (set slots u (suc q)) j 0) z
           ∙ get_or-set_same slots u (suc q) 0 (omega arith)
-          ∙ sym (cut (omega arith) i ∙ seat_hit (get_or nodes q 0) (drop (suc q) nodes) i q (z ∙ e))
-      at e i v (inr z) =
+          ∙ sym (ap (λ (l : List ℕ). seat l i q) (drop-cons nodes q 0 (omega arith)) ∙ seat_hit (get_or nodes q 0) (drop (suc q) nodes) i q (z ∙ node))
+      at q more node g i v (inr z) =
           let m = s.most in
           get_or-set_other slots u i (suc q) 0 z
           ∙ s.seats i v
-          ∙ sym (cut (omega arith) i ∙ seat_miss (get_or nodes q 0) (drop (suc q) nodes) i q (λ w. z (w ∙ sym e)))
+          ∙ ap (λ (k : ℕ). seat (drop k nodes) i k) more
+          ∙ sym (ap (λ (l : List ℕ). seat l i q) (drop-cons nodes q 0 (omega arith)) ∙ seat_miss (get_or nodes q 0) (drop (suc q) nodes) i q (λ w. z (w ∙ sym node)))
 
-  pub seating_end : {slots : List ℕ} {p : ℕ} → Seating nodes s₀ slots p → (0 < p → ⊥) → Seated nodes slots
-  seating_end {slots} {p} s h =
-      let q : p ≡ 0 = omega arith in
+  pub seating_end : {slots rest : List ℕ} → Seating nodes s₀ slots rest → length rest ≡ 0 → Seated nodes slots
+  seating_end {slots} {rest} s q =
       let y = s.size in
       record { seats = λ i g. s.seats i (omega arith) ∙ ap (λ (k : ℕ). seat (drop k nodes) i k) q }
-
-module _ {nodes s₀ slots : List ℕ} {p u : ℕ} (b : Below (length s₀) nodes) (s : Seating nodes s₀ slots p) (h : 0 < p) (e : u ≡ get_or nodes (p - 1) 0) where
-  pub seat_node : u < length s₀
-  seat_node = let m = s.most in let z = b (p - 1) (omega arith) in omega arith
-
-  pub seat_fits : u < length slots
-  seat_fits = let z = s.size in let y = seat_node in omega arith

@@ -1,11 +1,16 @@
 -- Chains through the lent words, where scratch lays them: the heads of the n ids, and the links, one for each entry of the fresh rows.
-use Rattle.std.specs.Prelude.{ℕ, ◌+◌, ◌/◌, ◌≤◌, ◌<◌, ◌≡◌, List, map, length, get_or, take, set}
+use Rattle.std.specs.Prelude.{ℕ, ◌+◌, ◌/◌, ◌≤◌, ◌<◌, ◌≡◌, Option, None, Some, suc, List, map, length, get_or, set}
 use Rattle.laws.specs.Listed.{fresh_width}
 use Rattle.scratch.specs.Layout.{heads_at, seats_at, links_at, links_end, fresh_at}
 use Rattle.given.specs.Fresh.{Merging, entry, entries_of}
 use Rattle.batch_ids.specs.Grown.{grown, wanted}
 use Rattle.batch_ids.specs.Says.{Holds}
 use Rattle.batch_chains.specs.Last.{last, named, seat}
+
+-- the word that holds a place: one more than it, 0 for none
+abbrev pub place_word : Option ℕ → ℕ
+place_word None = 0
+place_word (Some p) = suc p
 
 -- m entries of the fresh rows lie in `size` words, and each has a link
 pub record Laid (n m size : ℕ) : Type 0 where
@@ -46,10 +51,10 @@ pub record Chains (f : Merging) : Type 0 where
 unfoldable pub sources : Merging → ℕ → ℕ → List ℕ
 sources f i m = map (λ e. get_or f.nodes (e / fresh_width) 0) (named (entry f.n f.words) i m)
 
--- all of them are put among the first len of a list, after which there are r
-pub record NamingAdded (f : Merging) (node len : ℕ) (l₀ l : List ℕ) (r : ℕ) : Type 0 where
-  pub holds : Holds l r (grown (wanted node (sources f node (entries_of f.nodes))) (take len l₀))
-  pub most : r ≤ len + length f.nodes
+-- all of them are put into a list
+pub record NamingAdded (f : Merging) (node : ℕ) (l₀ l : List ℕ) : Type 0 where
+  pub holds : Holds l (grown (wanted node (sources f node (entries_of f.nodes))) l₀)
+  pub most : length l ≤ length l₀ + length f.nodes
 
 -- the place of each listed node, one more than it; 0 for all others
 pub record Seated (nodes slots : List ℕ) : Type 0 where

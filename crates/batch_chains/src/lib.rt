@@ -3,11 +3,21 @@
 #![tactic(auto)]
 
 ghost use Rattle.std.specs.Prelude.{◌≡◌, ℕ, ◌+◌, ◌-◌, ◌≤◌, ◌<◌, length, get_or};
+ghost use Rattle.arrayvec.specs.ArrayVec.{array_vec_len};
+ghost use Rattle.laws.specs.Rising.{Asc};
 ghost use Rattle.laws.specs.Words.{Below};
 ghost use Rattle.scratch.specs.Layout.{heads_at, links_at, links_end, fresh_at};
 ghost use Rattle.given.specs.Fresh.{merging};
-ghost use Rattle.batch_ids.specs.Says.{Rises};
-ghost use Rattle.batch_chains.specs.Says.{Laid, OneLinked, Linked, Chains, NamingAdded, Seated};
+ghost use Rattle.batch_chains.specs.Says.{Laid, OneLinked, Linked, Chains, NamingAdded, Seated, place_word};
+
+use arrayvec::ArrayVec;
+
+// The place that a word of heads, links or seats holds: none where it is 0.
+pub fn place_in(word: u32) -> Option<usize>
+    ensures { place_word result ≡ word }
+{
+    table::index_of(word).checked_sub(1)
+}
 
 // One entry at the front of its id's chain. Padding is no id.
 fn link_entry(words: &mut [u32], n: usize, e: usize)
@@ -31,40 +41,33 @@ pub fn link_entries(words: &mut [u32], n: usize, m: usize)
     requires by_index { (i : ℕ) → i < n → get_or words.old (heads_at n + i) 0 ≡ 0 }
     ensures { Linked n m words.old words.new }
 {
-    let mut e = 0;
-    while e < m {
+    for e in 0..m {
         link_entry(words, n, e);
-        e += 1;
     }
 }
 
-// All listed nodes whose fresh row names the node, put into a rising list: how many there are then.
-pub fn add_naming(
+// All listed nodes whose fresh row names the node, put into a rising list.
+pub fn add_naming<const N: usize>(
     words: &[u32],
     n: usize,
     nodes: &[u32],
     node: u32,
-    list: &mut [u32],
-    len: usize,
-) -> usize
-    requires node_lt_n { (node < n) × (length nodes.now ≤ 256) × (len + length nodes.now ≤ length list.old) }
+    list: &mut ArrayVec<u32, N>,
+)
+    requires node_lt_n { (node < n) × (length nodes.now ≤ 256) × (array_vec_len list.old + length nodes.now ≤ N) }
     requires chains { Chains (merging n nodes.now words.now) }
-    requires rises { Rises list.old len }
-    ensures { NamingAdded (merging n nodes.now words.now) node len list.old list.new result }
+    requires rises { Asc list.old.items }
+    ensures { NamingAdded (merging n nodes.now words.now) node list.old.items list.new.items }
 {
     let own = table::index_of(node);
     let head = scratch::heads_at(n) + own;
     let links = scratch::links_at(n);
-    let mut e = table::index_of(words[head]);
-    let mut count = len;
-    while 0 < e {
-        let a = e - 1;
-        let p = a / scratch::FRESH_WIDTH;
-        count = batch_ids::add_word(list, count, nodes[p], node);
-        let at = links + a;
-        e = table::index_of(words[at]);
+    let mut next = place_in(words[head]);
+    while let Some(e) = next {
+        let p = e / scratch::FRESH_WIDTH;
+        batch_ids::add_word(list, nodes[p], node);
+        next = place_in(words[links + e]);
     }
-    count
 }
 
 // One more than the place of each listed node, from slots that are all 0; at a repeated one the first place.
@@ -74,11 +77,8 @@ pub fn seat_nodes(nodes: &[u32], slots: &mut [u32])
     requires by_index { (i : ℕ) → i < length slots.old → get_or slots.old i 0 ≡ 0 }
     ensures { Seated nodes.now slots.new }
 {
-    let mut p = nodes.len();
-    while 0 < p {
-        let q = p - 1;
-        let node = table::index_of(nodes[q]);
-        slots[node] = p as u32;
-        p = q;
+    for (p, node) in nodes.iter().enumerate().rev() {
+        let own = table::index_of(*node);
+        slots[own] = (p + 1) as u32;
     }
 }

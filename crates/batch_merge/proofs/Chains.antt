@@ -3,7 +3,7 @@
 use Prim.Native.Nat.{ℕ, ◌+◌, ◌-◌, ◌≤◌, ◌<◌, min}
 use native.Mathlib.Omega.{arith}
 use mathlib.Core.Path.{◌≡◌, sym, ap, ◌∙◌, subst}
-use mathlib.Core.Bool.{Bool, true, not, ◌||◌}
+use mathlib.Core.Bool.{Bool, not, ◌||◌}
 use mathlib.Core.List.{List}
 use borrow.Author.Tests.{eq-eqb, ne_eqb}
 use lib.Dec.{eqb}
@@ -177,8 +177,8 @@ module _ {f : Merging} {i : ℕ} (r : Gatherable f) (h : i < f.n) where
     seated : get_or f.words (seats + i) 0 ≡ its_seat
     seated = ap (λ (k : ℕ). get_or f.words (k + i) 0) seats-at
 
-    pub by_seat : (get_or f.words (seats + i) 0 ≡ 0 → ⊥) → true ≡ affected (listed_in f) i
-    by_seat s = sym (says ∙ ap (λ (b : Bool). not b || not (eqb its_head 0)) (ne_eqb its_seat 0 (λ e. s (seated ∙ e))))
+    pub by_seat : (get_or f.words (seats + i) 0 ≡ 0 → ⊥) → not (eqb (get_or f.words (seats + i) 0) 0) ≡ affected (listed_in f) i
+    by_seat s = ap not (ne_eqb _ 0 s) ∙ sym (says ∙ ap (λ (b : Bool). not b || not (eqb its_head 0)) (ne_eqb its_seat 0 (λ e. s (seated ∙ e))))
 
     pub by_head : {heads : ℕ} → heads ≡ heads_at f.n → get_or f.words (seats + i) 0 ≡ 0
         → not (eqb (get_or f.words (heads + i) 0) 0) ≡ affected (listed_in f) i

@@ -32,11 +32,8 @@ fn is_affected(words: &[u32], n: usize, nodes: &[u32], i: usize) -> bool
     ensures { result ≡ affected (listed_in (merging n nodes.now words.now)) i }
 {
     let seat = scratch::seats_at(n) + i;
-    if words[seat] != 0 {
-        return true;
-    }
     let head = scratch::heads_at(n) + i;
-    words[head] != 0
+    words[seat] != 0 || words[head] != 0
 }
 
 // The row of one affected node: its merged ids, pruned if they are more than the slack.
@@ -54,18 +51,17 @@ fn merge_row(
     ensures { RowMerged (given g vectors.now) (merging g.n nodes.now words.now)
         i wide.old wide.new }
 {
-    let mut ids = [0u32; batch_affected::MERGED];
-    let mut dists = [0u32; batch_affected::MERGED];
     let node = table::word_of(i);
-    let count = batch_affected::gather_node(words, wide, g.n, nodes, node, g.slack, &mut ids);
+    let ids = batch_affected::gather_node(words, wide, g.n, nodes, node, g.slack);
+    let mut dists = [0u32; batch_affected::MERGED];
     prune_fit::fit_row(
         g,
         vectors,
         node,
         g.slack,
         wide,
-        &ids[0..count],
-        &mut dists[0..count],
+        &ids,
+        &mut dists[..ids.len()],
         factors,
     );
 }
@@ -86,13 +82,10 @@ fn merge_rows(
     ensures { wide.new ≡ merged (setting (given g vectors.now)) wide.old
         (listed_in (merging g.n nodes.now words.now)) }
 {
-    let n = g.n;
-    let mut i = 0;
-    while i < n {
-        if is_affected(words, n, nodes, i) {
+    for i in 0..g.n {
+        if is_affected(words, g.n, nodes, i) {
             merge_row(g, vectors, nodes, i, wide, words, factors);
         }
-        i += 1;
     }
 }
 

@@ -1,9 +1,9 @@
 -- The runs of a whole build, on accepted input: the definition's `batches`, one run at a time.
-use Prim.Native.Nat.{ℕ, zero, suc, ◌+◌, ◌-◌, ◌*◌, ◌≤◌, ◌<◌, min}
-use Rattle.std.proofs.Common.{add-mul, mul-le-mul_right, arith, sym, ap, ap₂, ◌∙◌, inl, inr, leb-true, leb-false, drop_of_length-le, take_all, drop-drop}
+use Prim.Native.Nat.{ℕ, zero, suc, ◌+◌, ◌*◌, ◌≤◌, ◌<◌, min}
+use Rattle.std.proofs.Common.{mul-le-mul_right, zero-mul, arith, sym, ap, ap₂, ◌∙◌, inl, inr, leb-true, leb-false, length-append, length-take-le, drop_of_length-le, take_all, take_at, drop_at}
 use Rattle.std.specs.Prelude.{◌≡◌, ◌⊎◌, Bool, true, false, leb, length, get_or, take, drop}
 use Rattle.std.proofs.Math.Path.{refl, subst}
-use mathlib.Core.List.{List, [], ◌∷◌, Memᴰ as Mem}
+use mathlib.Core.List.{List, [], ◌∷◌, ◌++◌, Memᴰ as Mem}
 use Rattle.std.proofs.Math.ListN.{length-drop}
 use Rattle.definition.specs.Tables.{pad}
 use Rattle.definition.specs.Slack.{slack}
@@ -11,7 +11,7 @@ use Rattle.definition.specs.Batch.{Setting, batch}
 use Rattle.definition.specs.Build.{batch_size, batches}
 use Rattle.definition.specs.Outcome.{setting_of}
 use Rattle.laws.specs.Members.{take_mem, drop_mem, mem-at}
-use Rattle.laws.specs.Parts.{part, part_length, within_trans, within_none}
+use Rattle.laws.specs.Parts.{within_trans, within_none}
 use Rattle.laws.specs.Words.{Below}
 use Rattle.scratch.specs.Layout.{fresh_end, floats_end}
 use Rattle.given.specs.Given.{Given, setting, WalkLimits}
@@ -20,6 +20,7 @@ use Rattle.given.specs.Held.{Held, held, Roomy, RoomKept}
 use Rattle.theory.specs.Kept.{TableKept}
 use Rattle.theory.specs.Rule.{kept_searchable}
 use Rattle.theory.specs.build.Runs.{batches_same}
+use Rattle.theory.specs.build.Stretches.{seeds_cut}
 use Rattle.theory.specs.build.Batches.{batch_kept_lem}
 use Rattle.theory.specs.build.Walks.{run_walks, batch-walks, run-walks, epoch_after, epochs_fit}
 use Rattle.marks.specs.Marked.{Marks, FirstEpoch}
@@ -80,26 +81,21 @@ cut-same {A} m k l (inr h) =
 
 -- ---- the runs of the code
 
--- what is left of the listing when `at` ids of the order are done
-abbrev left_of : Given → Listing → ℕ → Listing
-left_of g l at = listing l.start (drop at l.nodes) (drop (at * g.params.extra) l.seeds)
-
--- the run from `at` to `end`, as it is lent
-abbrev run_of : Given → Listing → ℕ → ℕ → Listing
-run_of g l at end = listing l.start (part at end l.nodes) (part (at * g.params.extra) (end * g.params.extra) l.seeds)
-
 -- the definition's batches of a listing
-abbrev batches_of : Given → ℕ → Listing → List ℕ → List ℕ
+abbrev pub batches_of : Given → ℕ → Listing → List ℕ → List ℕ
 batches_of g fuel l wide = batches (setting g) l.start g.params.extra fuel l.nodes l.seeds wide
 
--- `at` ids of the order are done: no mark is past the epoch, to which each of them has added one for itself and one for each of its seeds
-pub record Running (g : Given) (l : Listing) (before after : Held) (epoch at : ℕ) : Type 0 where
-  pub most : at ≤ g.n
+-- `order` and `seeds` are left: no mark is past the epoch, to which each id that is done has added one for itself and one for each of its seeds
+pub record Running (g : Given) (l : Listing) (before after : Held) (epoch : ℕ) (order seeds : List ℕ) : Type 0 where
+  pub most : length order ≤ g.n
+  pub order_in : Entries g.n order
+  pub seeds_are : length seeds ≡ length order * g.params.extra
+  pub seeds_in : Entries g.n seeds
   pub kept : TableKept g.n (slack g.params.degree) after.wide
-  pub same : batches_of g g.n (left_of g l at) after.wide ≡ batches_of g (length l.nodes) l before.wide
+  pub same : batches_of g g.n (listing l.start order seeds) after.wide ≡ batches_of g (length l.nodes) l before.wide
   pub within : RoomKept g.n before.lent after.lent
   pub marks : Marks g.n after.lent.words epoch
-  pub epoch_is : epoch ≡ 1 + (at + at * g.params.extra)
+  pub epoch_is : epoch + (length order + length seeds) ≡ 1 + (g.n + g.n * g.params.extra)
 
 -- ---- the marks are cleared, once for all runs
 module _ {g : Given} {l : Listing} {before : Held} (r : RunsReady g l before) where
@@ -124,21 +120,21 @@ module _ {g : Given} {l : Listing} {before : Held} (r : RunsReady g l before) wh
           roomy = record { words = omega (arith, r.roomy.words, first.kept.size); floats = r.roomy.floats };
         }
 
-    pub runs_start : Running g l begun begun epoch 0
+    pub runs_start : Running g l begun begun epoch l.nodes l.seeds
     runs_start =
-        let q : 0 * g.params.extra ≡ 0 = omega arith in
         record {
-          most = omega arith;
+          most = omega (arith, r.order_is);
+          order_in = r.order_in;
+          seeds_are = r.seeds_are ∙ ap (λ (k : ℕ). k * g.params.extra) (sym r.order_is);
+          seeds_in = r.seeds_in;
           kept = r.kept;
-          same =
-              ap (λ (k : ℕ). batches_of g g.n (listing l.start l.nodes (drop k l.seeds)) before.wide) q
-              ∙ ap (λ (k : ℕ). batches_of g k l before.wide) (sym r.order_is);
+          same = ap (λ (k : ℕ). batches_of g k l before.wide) (sym r.order_is);
           within = record {
             words = within_none 0 (fresh_end g.n) words₁;
             floats = within_none 0 (floats_end g.n) before.lent.floats;
           };
           marks = first.marks;
-          epoch_is = omega (arith, first.is);
+          epoch_is = omega (arith, first.is, r.order_is, r.seeds_are);
         }
 
     pub runs_done : {last : ℕ} {after : Held} → RunsDone g l last begun after → RunsDone g l last before after
@@ -155,166 +151,124 @@ module _ {g : Given} {l : Listing} {before : Held} (r : RunsReady g l before) wh
   abbrev extra : ℕ
   extra = g.params.extra
 
-  pub runs_end : {after : Held} {epoch at : ℕ} → Running g l before after epoch at → (at < g.n → ⊥) → RunsDone g l epoch before after
-  runs_end {after} {epoch} {at} s h =
-      let m = s.most in
-      let o = r.order_is in
-      let left = left_of g l at in
-      let none : length (drop at l.nodes) ≡ 0 = length-drop at l.nodes ∙ omega arith in
-      let all : at ≡ g.n = omega arith in
-      let same : at * extra ≡ g.n * extra = ap (λ (k : ℕ). k * extra) all in
-      let order : length l.nodes * extra ≡ g.n * extra = ap (λ (k : ℕ). k * extra) r.order_is in
-      let seeds = r.seeds_are in
-      let walks = run-walks (setting g) l.start extra (length l.nodes) l.nodes l.seeds before.wide (omega arith) (omega arith) in
-      record {
-        wide_is = sym (none_left (setting g) l.start extra g.n left.nodes left.seeds after.wide none) ∙ s.same;
-        kept = s.kept;
-        within = s.within;
-        epoch_is = omega (arith, s.epoch_is);
-      }
-
-  module _ {after : Held} {epoch at : ℕ} (s : Running g l before after epoch at) (h : at < g.n) {end : ℕ} (e : end ≡ min (at + 256) g.n) where
-    pub end_most : end ≤ g.n
-    end_most = omega arith
-
-    pub end_later : at < end
-    end_later = omega arith
-
-    -- the run ends after it begins, within the order
-    pub nodes_fit : (at < end) × (end ≤ g.n) × (end ≤ length l.nodes)
-    nodes_fit = let o = r.order_is in (end_later, end_most, omega arith)
-
-    -- the seeds of the run, as they are lent
-    seeds_run : end * extra ≡ at * extra + (end - at) * extra
-    seeds_run =
-        let m = end_later in
-        let q : at + (end - at) ≡ end = omega arith in
-        ap (λ (k : ℕ). k * extra) (sym q) ∙ add-mul at (end - at) extra
-
-    pub seeds_fit : (at * extra ≤ end * extra) × (end * extra ≤ length l.seeds)
-    seeds_fit =
-        let m = mul-le-mul_right extra end_most in
-        let a = r.seeds_are in
-        let b = seeds_run in
-        (omega arith, omega arith)
-
-    seeds_length : end * extra - at * extra ≡ (end - at) * extra
-    seeds_length = let b = seeds_run in omega arith
-
-    part_in : (xs : List ℕ) (a b : ℕ) → Entries g.n xs → Entries g.n (part a b xs)
-    part_in xs a b f u m = f u (drop_mem a xs (take_mem (b - a) (drop a xs) m))
-
-    part_below : (xs : List ℕ) (a b : ℕ) → Entries g.n xs → Below g.n (part a b xs)
-    part_below xs a b f k l = part_in xs a b f (get_or (part a b xs) k 0) (mem-at 0 (part a b xs) k l)
-
-    nodes_length : length (part at end l.nodes) ≡ end - at
-    nodes_length = let m = end_most in let o = r.order_is in part_length at end l.nodes (omega arith)
-
-    run_seeds_length : length (run_of g l at end).seeds ≡ length (run_of g l at end).nodes * extra
-    run_seeds_length =
-        part_length (at * extra) (end * extra) l.seeds seeds_fit.1 ∙ seeds_length ∙ ap (λ (k : ℕ). k * extra) (sym nodes_length)
-
-    -- the epoch as its walks leave it
-    epoch_then : epoch_after epoch (walks_of g after.wide (run_of g l at end)) ≡ 1 + (end + end * extra)
-    epoch_then =
-        let run = run_of g l at end in
-        let lt = end_later in
-        let walks = batch-walks after.wide l.start extra run.nodes run.seeds run_seeds_length in
-        omega (arith, walks, nodes_length, part_length (at * extra) (end * extra) l.seeds seeds_fit.1, seeds_fit, s.epoch_is)
-
-    pub run_asks : BatchReady g (run_of g l at end) epoch after
-    run_asks =
-        let w = s.within.words.size in
-        let f = s.within.floats.size in
-        let x = r.roomy.words in
-        let y = r.roomy.floats in
-        let few = nodes_length in
-        let lt = end_later in
+  module _ {after : Held} {epoch : ℕ} {order seeds : List ℕ} (s : Running g l before after epoch order seeds) where
+    pub runs_end : length order ≡ 0 → RunsDone g l epoch before after
+    runs_end none =
+        let groups : length l.seeds ≡ length l.nodes * extra = r.seeds_are ∙ ap (λ (k : ℕ). k * extra) (sym r.order_is) in
+        let walks = run-walks (setting g) l.start extra (length l.nodes) l.nodes l.seeds before.wide (omega arith) groups in
+        let no_seeds : length order * extra ≡ 0 = ap (λ (k : ℕ). k * extra) none ∙ zero-mul extra in
         record {
-          limits = r.limits;
-          table = record { size = rw r.limits.limits.width_is s.kept.size; words = kept_searchable s.kept };
-          listable = record {
-            start_in = r.start_in;
-            few = omega arith;
-            nodes_in = part_below l.nodes at end r.order_in;
-            groups = run_seeds_length;
-            seeds_in = part_below l.seeds (at * extra) (end * extra) r.seeds_in;
-          };
-          roomy = record { words = omega arith; floats = omega arith };
-          marks = s.marks;
-          epochs = rw epoch_then (epochs_fit (omega (arith, end_most, r.limits.limits.nodes)) r.extra_few);
+          wide_is = sym (none_left (setting g) l.start extra g.n order seeds after.wide none) ∙ s.same;
+          kept = s.kept;
+          within = s.within;
+          epoch_is = omega (arith, s.epoch_is, s.seeds_are, r.order_is, r.seeds_are);
         }
 
-    -- what the definition cuts off is this run
-    abbrev left : Listing
-    left = left_of g l at
+    -- `run` comes off the front of the order, and its groups off that of the seeds
+    module _ (run order' : List ℕ) (cut : order ≡ run ++ order') (size : length run ≡ min 256 (length order)) where
+      whole : length order ≡ length run + length order'
+      whole = ap length cut ∙ length-append run order'
 
-    order_cut : (take 256 left.nodes ≡ take (end - at) left.nodes) × (drop 256 left.nodes ≡ drop (end - at) left.nodes)
-    order_cut = cut-same 256 (end - at) left.nodes (go (leb (at + 256) g.n) refl)
-      where
-        go : (b : Bool) → leb (at + 256) g.n ≡ b → ((end - at) ≡ 256) ⊎ ((length left.nodes ≤ 256) × (length left.nodes ≤ end - at))
-        go true q = let l = leb-true (at + 256) g.n q in inl (omega arith)
-        go false q =
-            let p = leb-false (at + 256) g.n q in
-            let o = r.order_is in
-            let d = length-drop at l.nodes in
-            inr (omega arith, omega arith)
+      pub seeds_fit : length run * extra ≤ length seeds
+      seeds_fit = let few : length run ≤ length order = omega (arith, whole) in omega (arith, s.seeds_are, mul-le-mul_right extra few)
 
-    seeds_cut : (take (256 * extra) left.seeds ≡ take ((end - at) * extra) left.seeds)
-        × (drop (256 * extra) left.seeds ≡ drop ((end - at) * extra) left.seeds)
-    seeds_cut = cut-same (256 * extra) ((end - at) * extra) left.seeds (go (leb (at + 256) g.n) refl)
-      where
-        go : (b : Bool) → leb (at + 256) g.n ≡ b
-            → ((end - at) * extra ≡ 256 * extra) ⊎ ((length left.seeds ≤ 256 * extra) × (length left.seeds ≤ (end - at) * extra))
-        go true q = let l = leb-true (at + 256) g.n q in let k : end - at ≡ 256 = omega arith in inl (ap (λ (z : ℕ). z * extra) k)
-        go false q =
-            let p = leb-false (at + 256) g.n q in
-            let o = r.seeds_are in
-            let d = length-drop (at * extra) l.seeds in
-            let k : end ≡ g.n = omega arith in
-            let m : g.n * extra ≡ end * extra = ap (λ (z : ℕ). z * extra) (sym k) in
-            let b = seeds_run in
-            let few : end - at ≤ 256 = omega arith in
-            let c = mul-le-mul_right extra few in
-            inr (omega arith, omega arith)
+      -- the last run may be shorter
+      full_or_last : (length run ≡ 256) ⊎ ((length order ≤ 256) × (length order ≤ length run))
+      full_or_last = go (leb 256 (length order)) refl
+        where
+          go : (b : Bool) → leb 256 (length order) ≡ b → (length run ≡ 256) ⊎ ((length order ≤ 256) × (length order ≤ length run))
+          go true q = let h = leb-true 256 (length order) q in inl (omega arith)
+          go false q = let h = leb-false 256 (length order) q in inr (omega arith, omega arith)
 
-    module _ {more : Held} {last : ℕ} (b : BatchRun g (run_of g l at end) epoch last after more) where
-      wide_is : more.wide ≡ batch (setting g) l.start extra (take 256 left.nodes) (take (256 * extra) left.seeds) after.wide
-      wide_is =
-          b.wide_is
-          ∙ ap₂ (λ (us ss : List ℕ). batch (setting g) l.start extra us ss after.wide) (sym order_cut.0)
-          (ap (λ (k : ℕ). take k left.seeds) seeds_length ∙ sym seeds_cut.0)
+      module _ (own seeds' : List ℕ) (own_is : own ≡ take (length run * extra) seeds) (seeds'-is : seeds' ≡ drop (length run * extra) seeds) where
+        -- what the definition cuts off is this run
+        order_cut : (run ≡ take 256 order) × (order' ≡ drop 256 order)
+        order_cut =
+            let k = length run in
+            let same = cut-same 256 k order full_or_last in
+            (sym (take_at run order' k refl) ∙ ap (take k) (sym cut) ∙ sym same.0, sym (drop_at run order' k refl) ∙ ap (drop k) (sym cut) ∙ sym same.1)
 
-      still_kept : TableKept g.n (slack g.params.degree) more.wide
-      unfolding setting_of pad
-      still_kept =
-          let small = r.limits.limits.nodes in
-          let run = run_of g l at end in
-          subst (TableKept g.n (slack g.params.degree)) (sym b.wide_is)
-          (batch_kept_lem (setting g) after.wide r.limits.alpha_low (omega arith) s.kept l.start extra run.nodes run.seeds r.start_in
-          (part_in l.nodes at end r.order_in) (part_in l.seeds (at * extra) (end * extra) r.seeds_in))
+        seeds_cut' : (own ≡ take (256 * extra) seeds) × (seeds' ≡ drop (256 * extra) seeds)
+        seeds_cut' = let same = cut-same (256 * extra) (length run * extra) seeds (go full_or_last) in (own_is ∙ sym same.0, seeds'-is ∙ sym same.1)
+          where
+            go : (length run ≡ 256) ⊎ ((length order ≤ 256) × (length order ≤ length run))
+                → (length run * extra ≡ 256 * extra) ⊎ ((length seeds ≤ 256 * extra) × (length seeds ≤ length run * extra))
+            go (inl e) = inl (ap (λ (k : ℕ). k * extra) e)
+            go (inr h) =
+                inr (omega (arith, s.seeds_are, mul-le-mul_right extra h.0), omega (arith, s.seeds_are, mul-le-mul_right extra h.1))
 
-      pub runs_more : Running g l before more last end
-      runs_more =
-          let lt = end_later in
-          let o = r.order_is in
-          let d = length-drop at l.nodes in
-          let q : at + (end - at) ≡ end = omega arith in
-          record {
-            most = end_most;
-            kept = still_kept;
-            same =
-                ap₂ (λ (us ss : List ℕ). batches_of g g.n (listing l.start us ss) more.wide)
-                (ap (λ (k : ℕ). drop k l.nodes) (sym q) ∙ sym (drop-drop (end - at) at l.nodes) ∙ sym order_cut.1)
-                (ap (λ (k : ℕ). drop k l.seeds) seeds_run ∙ sym (drop-drop ((end - at) * extra) (at * extra) l.seeds) ∙ sym seeds_cut.1)
-                ∙ ap (batches_of g g.n (listing l.start (drop 256 left.nodes) (drop (256 * extra) left.seeds))) wide_is
-                ∙ sym (one_run (setting g) l.start extra g.n left.nodes left.seeds after.wide (omega arith) (omega arith))
-                ∙ s.same;
-            within = record {
-              words = within_trans 0 (fresh_end g.n) before.lent.words after.lent.words more.lent.words s.within.words b.kept.words;
-              floats =
-                  within_trans 0 (floats_end g.n) before.lent.floats after.lent.floats more.lent.floats s.within.floats b.kept.floats;
-            };
-            marks = b.marks;
-            epoch_is = b.epoch_is ∙ epoch_then;
-          }
+        own_length : length own ≡ length run * extra
+        own_length = ap length own_is ∙ length-take-le (length run * extra) seeds seeds_fit
+
+        seeds'-length : length seeds' ≡ length order' * extra
+        seeds'-length = ap length seeds_cut'.1 ∙ (seeds_cut extra 256 order seeds s.seeds_are).dropped ∙ ap (λ (xs : List ℕ). length xs * extra) (sym order_cut.1)
+
+        run_in : Entries g.n run
+        run_in u m = s.order_in u (take_mem 256 order (subst (Mem u) order_cut.0 m))
+
+        own_in : Entries g.n own
+        own_in u m = s.seeds_in u (take_mem (256 * extra) seeds (subst (Mem u) seeds_cut'.0 m))
+
+        below : (xs : List ℕ) → Entries g.n xs → Below g.n xs
+        below xs f k h = f (get_or xs k 0) (mem-at 0 xs k h)
+
+        -- the epoch as its walks leave it
+        epoch_then : epoch_after epoch (walks_of g after.wide (listing l.start run own)) + (length order' + length seeds') ≡ 1 + (g.n + g.n * extra)
+        epoch_then =
+            let walks = batch-walks after.wide l.start extra run own own_length in
+            let rest = ap length seeds'-is ∙ length-drop (length run * extra) seeds in
+            omega (arith, walks, rest, s.epoch_is, whole, own_length, seeds_fit)
+
+        pub run_asks : BatchReady g (listing l.start run own) epoch after
+        run_asks =
+            let w = s.within.words.size in
+            let f = s.within.floats.size in
+            let x = r.roomy.words in
+            let y = r.roomy.floats in
+            record {
+              limits = r.limits;
+              table = record { size = rw r.limits.limits.width_is s.kept.size; words = kept_searchable s.kept };
+              listable = record {
+                start_in = r.start_in;
+                few = omega arith;
+                nodes_in = below run run_in;
+                groups = own_length;
+                seeds_in = below own own_in;
+              };
+              roomy = record { words = omega arith; floats = omega arith };
+              marks = s.marks;
+              epochs = omega (arith, epoch_then, epochs_fit r.limits.limits.nodes r.extra_few);
+            }
+
+        module _ {more : Held} {last : ℕ} (b : BatchRun g (listing l.start run own) epoch last after more) where
+          wide_is : more.wide ≡ batch (setting g) l.start extra (take 256 order) (take (256 * extra) seeds) after.wide
+          wide_is = b.wide_is ∙ ap₂ (λ (us ss : List ℕ). batch (setting g) l.start extra us ss after.wide) order_cut.0 seeds_cut'.0
+
+          still_kept : TableKept g.n (slack g.params.degree) more.wide
+          unfolding setting_of pad
+          still_kept =
+              let small = r.limits.limits.nodes in
+              subst (TableKept g.n (slack g.params.degree)) (sym b.wide_is)
+              (batch_kept_lem (setting g) after.wide r.limits.alpha_low (omega arith) s.kept l.start extra run own r.start_in run_in own_in)
+
+          pub runs_more : 0 < length order → Running g l before more last order' seeds'
+          runs_more some =
+              record {
+                most = omega (arith, s.most, whole);
+                order_in = λ u m. s.order_in u (drop_mem 256 order (subst (Mem u) order_cut.1 m));
+                seeds_are = seeds'-length;
+                seeds_in = λ u m. s.seeds_in u (drop_mem (256 * extra) seeds (subst (Mem u) seeds_cut'.1 m));
+                kept = still_kept;
+                same =
+                    ap₂ (λ (us ss : List ℕ). batches_of g g.n (listing l.start us ss) more.wide) order_cut.1 seeds_cut'.1
+                    ∙ ap (batches_of g g.n (listing l.start (drop 256 order) (drop (256 * extra) seeds))) wide_is
+                    ∙ sym (one_run (setting g) l.start extra g.n order seeds after.wide some s.most)
+                    ∙ s.same;
+                within = record {
+                  words = within_trans 0 (fresh_end g.n) before.lent.words after.lent.words more.lent.words s.within.words b.kept.words;
+                  floats =
+                      within_trans 0 (floats_end g.n) before.lent.floats after.lent.floats more.lent.floats s.within.floats b.kept.floats;
+                };
+                marks = b.marks;
+                epoch_is = ap (λ (k : ℕ). k + (length order' + length seeds')) b.epoch_is ∙ epoch_then;
+              }

@@ -1,7 +1,6 @@
 // Part 7, the public calls: open, close and the whole build.
 #![tactic(auto)]
 
-ghost use Rattle.std.specs.Prelude.{◌≡◌, ◌+◌, ◌≤◌, min};
 ghost use Rattle.definition.specs.Outcome.{OpenMeets, CloseMeets, BuildMeets};
 ghost use Rattle.given.specs.Given.{given};
 ghost use Rattle.given.specs.Listing.{listing};
@@ -73,15 +72,6 @@ pub fn close(
     answers::done()
 }
 
-// Where the run that begins at `at` ends: 256 on, the last one at n.
-fn run_end(at: usize, n: usize) -> usize
-    requires { (at ≤ n) × (n ≤ 65536) }
-    ensures { result ≡ min (at + 256) n }
-{
-    let end = at + 256;
-    if end < n { end } else { n }
-}
-
 // The order in runs of 256, each a batch with as many groups of seeds. The marks are cleared once, and the epochs go on from run to run: it
 // returns the last.
 fn run_batches(
@@ -99,26 +89,12 @@ fn run_batches(
         (held wide.old words.old floats.old)
         (held wide.new words.new floats.new) }
 {
-    let n = g.n;
-    let extra = g.params.extra;
-    let mut epoch = marks::first_epoch(words, n);
-    let mut at = 0;
-    while at < n {
-        let end = run_end(at, n);
-        let from = at * extra;
-        let to = end * extra;
-        epoch = batch::run_batch(
-            g,
-            vectors,
-            epoch,
-            start,
-            &order[at..end],
-            &seeds[from..to],
-            wide,
-            words,
-            floats,
-        );
-        at = end;
+    let mut epoch = marks::first_epoch(words, g.n);
+    let mut left = seeds;
+    for run in order.chunks(256) {
+        let (groups, rest) = left.split_at(run.len() * g.params.extra);
+        epoch = batch::run_batch(g, vectors, epoch, start, run, groups, wide, words, floats);
+        left = rest;
     }
     epoch
 }

@@ -13,12 +13,11 @@ pub fn open_rows(n: usize, degree: usize, slack: usize, opening: &[u32], wide: &
     requires { OpenReady (opened n degree slack opening.now) (length wide.old) }
     ensures { wide.new ≡ open' n degree opening.now }
 {
-    let mut i = 0;
-    while i < n {
+    // By hand: the contract lets the degree be 0, and there are no chunks of 0 words.
+    for i in 0..n {
         let a = i * degree;
         let e = a + degree;
         table::put_row(wide, i, slack, &opening[a..e]);
-        i += 1;
     }
 }
 
@@ -58,10 +57,7 @@ pub fn close_rows(g: Ground, vectors: &[u8], wide: &[u32], closed: &mut [u32], f
     requires { CloseReady (given g vectors.now) wide.now (length closed.old) (length factors.old) }
     ensures { closed.new ≡ close (setting (given g vectors.now)) wide.now }
 {
-    let n = g.n;
-    let mut i = 0;
-    while i < n {
+    for i in 0..g.n {
         close_row(g, vectors, i, wide, closed, factors);
-        i += 1;
     }
 }

@@ -5,23 +5,23 @@ use Rattle.batch_affected.proofs.gather_node.Goals as goal
 
 pub base-row-requires : goal.base-row-requires
 base-row-requires c =
-    let asks = base_asks c.requires.ready c.requires.node_lt_n.0 c.requires.node_lt_n.1 _ _ c.seats_at.ensures c.index_of-own.ensures c.index_of-seat.ensures
-    _ c.requires.node_lt_n.3 in
+    let asks = base_asks c.requires.ready c.requires.node_lt_n.0 c.requires.node_lt_n.1 _ _ c.seats_at.ensures c.index_of-own.ensures c.place_in-seat.ensures
+    _ c.requires.node_lt_n.2 in
     record { n_bound = asks.0; fresh_width_in_bounds = asks.1 }
 
-pub add_row-count-requires : goal.add_row-count-requires
-add_row-count-requires c =
-    let asks = row_asks c.requires.ready c.requires.node_lt_n.0 c.requires.node_lt_n.1 _ _ c.seats_at.ensures c.index_of-own.ensures c.index_of-seat.ensures
-    _ _ c.base-row.ensures _ (omega arith) in
-    record { row_in_bounds = asks.0; rises = asks.1 }
+pub add_row-requires : goal.add_row-requires
+add_row-requires c =
+    let asks = row_asks c.requires.ready c.requires.node_lt_n.0 c.requires.node_lt_n.1 _ _ c.seats_at.ensures c.index_of-own.ensures c.place_in-seat.ensures
+    _ _ c.base-row.ensures c.new-ids.ensures in
+    (omega arith, asks)
 
 pub add_naming-requires : goal.add_naming-requires
 add_naming-requires c =
-    let asks = naming_asks c.requires.ready c.requires.node_lt_n.0 c.requires.node_lt_n.1 _ _ c.seats_at.ensures c.index_of-own.ensures c.index_of-seat.ensures
-    _ _ c.base-row.ensures c.add_row-count.ensures (omega arith) in
-    record { node_lt_n = asks.0; chains = asks.1.0; rises = asks.1.1 }
+    let asks = naming_asks c.requires.ready c.requires.node_lt_n.0 c.requires.node_lt_n.1 _ _ c.seats_at.ensures c.index_of-own.ensures c.place_in-seat.ensures
+    _ _ c.base-row.ensures c.new-ids.ensures c.add_row.ensures in
+    (omega arith, asks)
 
 pub returns : goal.returns
 returns c =
-    all_gathered c.requires.ready c.requires.node_lt_n.0 c.requires.node_lt_n.1 _ _ c.seats_at.ensures c.index_of-own.ensures c.index_of-seat.ensures
-    _ _ c.base-row.ensures c.add_row-count.ensures c.add_naming.ensures
+    all_gathered c.requires.ready c.requires.node_lt_n.0 c.requires.node_lt_n.1 _ _ c.seats_at.ensures c.index_of-own.ensures c.place_in-seat.ensures
+    _ _ c.base-row.ensures c.new-ids.ensures c.add_row.ensures c.add_naming.ensures

@@ -6,6 +6,6 @@ pub returns-then-words-seat-ne0 : goal.returns-then-words-seat-ne0
 returns-then-words-seat-ne0 c =
     by_seat c.requires.gatherable c.requires.i_lt_n c.seats_at.ensures c.if-words-seat-ne0.true
 
-pub returns : goal.returns
-returns c =
+pub returns-else-words-seat-ne0 : goal.returns-else-words-seat-ne0
+returns-else-words-seat-ne0 c =
     by_head c.requires.gatherable c.requires.i_lt_n c.seats_at.ensures c.heads_at.ensures c.if-words-seat-ne0.false
