@@ -15,6 +15,6 @@ pub returns-then-is_dash : goal.returns-then-is_dash
 unfolding value pad
 returns-then-is_dash c = rw (sym c.is_decimal.ensures ∙ c.if-is_decimal.false, sym c.is_dash.ensures ∙ c.if-is_dash.true)
 
-pub returns : goal.returns
+pub returns-else-is_dash : goal.returns-else-is_dash
 unfolding value junk
-returns c = rw (sym c.is_decimal.ensures ∙ c.if-is_decimal.false, sym c.is_dash.ensures ∙ c.if-is_dash.false)
+returns-else-is_dash c = rw (sym c.is_decimal.ensures ∙ c.if-is_decimal.false, sym c.is_dash.ensures ∙ c.if-is_dash.false)
