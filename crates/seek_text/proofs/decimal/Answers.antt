@@ -1,10 +1,10 @@
 -- `decimal`: the first digits say v, which stays below 10 to their number.
 use native.Mathlib.Omega.{arith}
-use Rattle.seek_text.proofs.Words.{decimal-start, decimal_small, decimal_on, decimal_end, digit_at}
+use Rattle.seek_text.proofs.Words.{decimal_start, decimal_small, decimal_on, decimal_end, digit_at}
 use Rattle.seek_text.proofs.decimal.Goals as goal
 
 pub loop-b-init : goal.loop-b-init
-loop-b-init c = decimal-start
+loop-b-init c = decimal_start
 
 pub overflow_mul-v : goal.overflow_mul-v
 overflow_mul-v c =
