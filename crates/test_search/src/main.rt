@@ -52,16 +52,28 @@ fn say_found(
     println!(rt; "")
 }
 
-#[derive(Clone, Copy)]
-enum Call {
-    Search,
-    Lookup,
+// What a call leaves of what it is lent.
+fn show<F: FnOnce(&mut [u32], &mut [f32], &mut [u32], &mut [f32]) -> Answer>(
+    rt: &impl Print,
+    label: &str,
+    stated: &[f32],
+    call: F,
+) -> io::Result<()>
+    requires { F.IsAlwaysCallable call }
+{
+    let mut words = [7; 560];
+    let mut floats = [7.0; 520];
+    let mut ids = [9; 9];
+    let mut dists = [9.0; 9];
+    print!(rt; "{label}: ")?;
+    let a = call(&mut words, &mut floats, &mut ids, &mut dists);
+    say_found(rt, a, &words, &ids, &dists, stated)
 }
 
-// A call on four entries of one byte by two words each, from entry 0.
-fn show(
+// A search of four entries of one byte by two words each, from entry 0.
+fn show_search(
     rt: &impl Print,
-    call: Call,
+    label: &str,
     vectors: &[u8],
     table: &[u32],
     query: u8,
@@ -69,41 +81,137 @@ fn show(
     k: usize,
     stated: &[f32],
 ) -> io::Result<()> {
-    let run = match call {
-        Call::Search => search::search,
-        Call::Lookup => search::lookup,
-    };
-    let mut words = [7; 560];
-    let mut floats = [7.0; 520];
-    let mut ids = [9; 9];
-    let mut dists = [9.0; 9];
-    let a = run(
-        4,
-        1,
-        vectors,
-        2,
-        beam,
-        k,
-        0,
-        table,
-        &[query],
-        &mut words,
-        &mut floats,
-        &mut ids,
-        &mut dists,
-    );
-    say_found(rt, a, &words, &ids, &dists, stated)
+    show(rt, label, stated, |words, floats, ids, dists| {
+        search::search(
+            4,
+            1,
+            vectors,
+            2,
+            beam,
+            k,
+            0,
+            table,
+            &[query],
+            words,
+            floats,
+            ids,
+            dists,
+        )
+    })
 }
 
-fn main(rt: HostRuntime) -> io::Result<()> {
-    show(
-        &rt,
-        Call::Search,
-        &[10, 20, 30, 40],
-        &[1, PADDING, 0, 2, 1, 3, 2, PADDING],
+// The same as a lookup.
+fn show_lookup(
+    rt: &impl Print,
+    label: &str,
+    vectors: &[u8],
+    table: &[u32],
+    query: u8,
+    beam: usize,
+    k: usize,
+    stated: &[f32],
+) -> io::Result<()> {
+    show(rt, label, stated, |words, floats, ids, dists| {
+        search::lookup(
+            4,
+            1,
+            vectors,
+            2,
+            beam,
+            k,
+            0,
+            table,
+            &[query],
+            words,
+            floats,
+            ids,
+            dists,
+        )
+    })
+}
+
+// What fit says of a table of that degree for four entries.
+fn show_fit(rt: &impl Print, label: &str, degree: usize, table: &[u32]) -> io::Result<()> {
+    println!(rt; "{label}: {} ", search::fit(4, degree, table).number)
+}
+
+// Searches and lookups of lines by 01's rows, two words each.
+fn show_searches(rt: &impl Print, line: &[u8], other: &[u8], rows: &[u32]) -> io::Result<()> {
+    show_search(
+        rt,
+        "query 38 beam 2 k 2",
+        line,
+        rows,
         38,
         2,
         2,
         &[4.0, 64.0],
+    )?;
+    show_search(rt, "query 38 beam 1 k 2", line, rows, 38, 1, 2, &[784.0])?;
+    show_search(rt, "query 38 beam 0 k 2", line, rows, 38, 0, 2, &[784.0])?;
+    show_search(
+        rt,
+        "query 38 beam 8 k 8",
+        line,
+        rows,
+        38,
+        8,
+        8,
+        &[4.0, 64.0, 324.0, 784.0],
+    )?;
+    show_search(
+        rt,
+        "query 25 beam 4 k 4",
+        line,
+        rows,
+        25,
+        4,
+        4,
+        &[25.0, 25.0, 225.0, 225.0],
+    )?;
+    show_search(rt, "missed entry", other, rows, 25, 2, 2, &[25.0, 25.0])?;
+    show_search(rt, "query 38 beam 257 k 2", line, rows, 38, 257, 2, &[0.0])?;
+    show_search(rt, "query 38 beam 4 k 0", line, rows, 38, 4, 0, &[0.0])
+}
+
+// The same line by rows with stray words, and by a word too few.
+fn show_lookups(rt: &impl Print, line: &[u8], rows: &[u32], stray: &[u32; 8]) -> io::Result<()> {
+    show_lookup(rt, "lookup of the line", line, rows, 38, 2, 2, &[4.0, 64.0])?;
+    show_lookup(
+        rt,
+        "lookup, stray words",
+        line,
+        stray,
+        38,
+        2,
+        2,
+        &[4.0, 64.0],
+    )?;
+    show_search(rt, "search, stray words", line, stray, 38, 2, 2, &[0.0])?;
+    show_lookup(
+        rt,
+        "lookup, a word too few",
+        line,
+        &stray[..7],
+        38,
+        2,
+        2,
+        &[0.0],
     )
+}
+
+fn show_fits(rt: &impl Print, rows: &[u32], stray: &[u32]) -> io::Result<()> {
+    show_fit(rt, "fit of the line", 2, rows)?;
+    show_fit(rt, "fit, stray words", 2, stray)?;
+    show_fit(rt, "fit, degree 65", 65, rows)
+}
+
+fn main(rt: HostRuntime) -> io::Result<()> {
+    let line = [10, 20, 30, 40];
+    let other = [10, 20, 30, 25];
+    let rows = [1, PADDING, 0, 2, 1, 3, 2, PADDING];
+    let stray = [4294967294, 1, 0, 2, 4, 3, 2, 5];
+    show_searches(&rt, &line, &other, &rows)?;
+    show_lookups(&rt, &line, &rows, &stray)?;
+    show_fits(&rt, &rows, &stray)
 }
