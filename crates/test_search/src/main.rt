@@ -55,7 +55,6 @@ fn say_found(
 // What a call leaves of what it is lent.
 fn show<F: FnOnce(&mut [u32], &mut [f32], &mut [u32], &mut [f32]) -> Answer>(
     rt: &impl Print,
-    label: &str,
     stated: &[f32],
     call: F,
 ) -> io::Result<()>
@@ -65,7 +64,6 @@ fn show<F: FnOnce(&mut [u32], &mut [f32], &mut [u32], &mut [f32]) -> Answer>(
     let mut floats = [7.0; 520];
     let mut ids = [9; 9];
     let mut dists = [9.0; 9];
-    print!(rt; "{label}: ")?;
     let a = call(&mut words, &mut floats, &mut ids, &mut dists);
     say_found(rt, a, &words, &ids, &dists, stated)
 }
@@ -73,7 +71,6 @@ fn show<F: FnOnce(&mut [u32], &mut [f32], &mut [u32], &mut [f32]) -> Answer>(
 // A search of four entries of one byte by two words each, from entry 0.
 fn show_search(
     rt: &impl Print,
-    label: &str,
     vectors: &[u8],
     table: &[u32],
     query: u8,
@@ -81,7 +78,7 @@ fn show_search(
     k: usize,
     stated: &[f32],
 ) -> io::Result<()> {
-    show(rt, label, stated, |words, floats, ids, dists| {
+    show(rt, stated, |words, floats, ids, dists| {
         search::search(
             4,
             1,
@@ -103,7 +100,6 @@ fn show_search(
 // The same as a lookup.
 fn show_lookup(
     rt: &impl Print,
-    label: &str,
     vectors: &[u8],
     table: &[u32],
     query: u8,
@@ -111,7 +107,7 @@ fn show_lookup(
     k: usize,
     stated: &[f32],
 ) -> io::Result<()> {
-    show(rt, label, stated, |words, floats, ids, dists| {
+    show(rt, stated, |words, floats, ids, dists| {
         search::lookup(
             4,
             1,
@@ -131,79 +127,49 @@ fn show_lookup(
 }
 
 // What fit says of a table of that degree for four entries.
-fn show_fit(rt: &impl Print, label: &str, degree: usize, table: &[u32]) -> io::Result<()> {
-    println!(rt; "{label}: {} ", search::fit(4, degree, table).number)
+fn show_fit(rt: &impl Print, degree: usize, table: &[u32]) -> io::Result<()> {
+    println!(rt; "{} ", search::fit(4, degree, table).number)
 }
 
 // Searches and lookups of lines by 01's rows, two words each.
 fn show_searches(rt: &impl Print, line: &[u8], other: &[u8], rows: &[u32]) -> io::Result<()> {
-    show_search(
-        rt,
-        "query 38 beam 2 k 2",
-        line,
-        rows,
-        38,
-        2,
-        2,
-        &[4.0, 64.0],
-    )?;
-    show_search(rt, "query 38 beam 1 k 2", line, rows, 38, 1, 2, &[784.0])?;
-    show_search(rt, "query 38 beam 0 k 2", line, rows, 38, 0, 2, &[784.0])?;
-    show_search(
-        rt,
-        "query 38 beam 8 k 8",
-        line,
-        rows,
-        38,
-        8,
-        8,
-        &[4.0, 64.0, 324.0, 784.0],
-    )?;
-    show_search(
-        rt,
-        "query 25 beam 4 k 4",
-        line,
-        rows,
-        25,
-        4,
-        4,
-        &[25.0, 25.0, 225.0, 225.0],
-    )?;
-    show_search(rt, "missed entry", other, rows, 25, 2, 2, &[25.0, 25.0])?;
-    show_search(rt, "query 38 beam 257 k 2", line, rows, 38, 257, 2, &[0.0])?;
-    show_search(rt, "query 38 beam 4 k 0", line, rows, 38, 4, 0, &[0.0])
+    print!(rt; "query 38 beam 2 k 2: ")?;
+    show_search(rt, line, rows, 38, 2, 2, &[4.0, 64.0])?;
+    print!(rt; "query 38 beam 1 k 2: ")?;
+    show_search(rt, line, rows, 38, 1, 2, &[784.0])?;
+    print!(rt; "query 38 beam 0 k 2: ")?;
+    show_search(rt, line, rows, 38, 0, 2, &[784.0])?;
+    print!(rt; "query 38 beam 8 k 8: ")?;
+    show_search(rt, line, rows, 38, 8, 8, &[4.0, 64.0, 324.0, 784.0])?;
+    print!(rt; "query 25 beam 4 k 4: ")?;
+    show_search(rt, line, rows, 25, 4, 4, &[25.0, 25.0, 225.0, 225.0])?;
+    print!(rt; "missed entry: ")?;
+    show_search(rt, other, rows, 25, 2, 2, &[25.0, 25.0])?;
+    print!(rt; "query 38 beam 257 k 2: ")?;
+    show_search(rt, line, rows, 38, 257, 2, &[0.0])?;
+    print!(rt; "query 38 beam 4 k 0: ")?;
+    show_search(rt, line, rows, 38, 4, 0, &[0.0])
 }
 
 // The same line by rows with stray words, and by a word too few.
 fn show_lookups(rt: &impl Print, line: &[u8], rows: &[u32], stray: &[u32; 8]) -> io::Result<()> {
-    show_lookup(rt, "lookup of the line", line, rows, 38, 2, 2, &[4.0, 64.0])?;
-    show_lookup(
-        rt,
-        "lookup, stray words",
-        line,
-        stray,
-        38,
-        2,
-        2,
-        &[4.0, 64.0],
-    )?;
-    show_search(rt, "search, stray words", line, stray, 38, 2, 2, &[0.0])?;
-    show_lookup(
-        rt,
-        "lookup, a word too few",
-        line,
-        &stray[..7],
-        38,
-        2,
-        2,
-        &[0.0],
-    )
+    print!(rt; "lookup of the line: ")?;
+    show_lookup(rt, line, rows, 38, 2, 2, &[4.0, 64.0])?;
+    print!(rt; "lookup, stray words: ")?;
+    show_lookup(rt, line, stray, 38, 2, 2, &[4.0, 64.0])?;
+    print!(rt; "search, stray words: ")?;
+    show_search(rt, line, stray, 38, 2, 2, &[0.0])?;
+    print!(rt; "lookup, a word too few: ")?;
+    show_lookup(rt, line, &stray[..7], 38, 2, 2, &[0.0])
 }
 
 fn show_fits(rt: &impl Print, rows: &[u32], stray: &[u32]) -> io::Result<()> {
-    show_fit(rt, "fit of the line", 2, rows)?;
-    show_fit(rt, "fit, stray words", 2, stray)?;
-    show_fit(rt, "fit, degree 65", 65, rows)
+    print!(rt; "fit of the line: ")?;
+    show_fit(rt, 2, rows)?;
+    print!(rt; "fit, stray words: ")?;
+    show_fit(rt, 2, stray)?;
+    print!(rt; "fit, degree 65: ")?;
+    show_fit(rt, 65, rows)
 }
 
 fn main(rt: HostRuntime) -> io::Result<()> {
