@@ -2,10 +2,9 @@
 use mathlib.Core.Path.{◌≡◌, refl, sym, ap, ◌∙◌, subst}
 use mathlib.Core.List.{List}
 use Prim.Native.Nat.{ℕ, zero, suc, ◌-◌, ◌*◌, ◌≤◌}
-use native.Mathlib.Nat.{sub-zero}
 use native.Mathlib.Omega.{arith}
 use lib.Ieee.{Float}
-use lib.ListN.{length, get_or, length-append, length-drop, length-map}
+use lib.ListN.{length, take, get_or, length-append, length-drop, length-map}
 use Rattle.definition.specs.Lists.{over}
 use Rattle.definition.specs.Beam.{Item}
 use Rattle.definition.specs.Refusals.{SearchCall, search_number}
@@ -75,20 +74,20 @@ module _ {vs vectors query words : List ℕ} {floats : List Float} {ids : List �
   module _ {n dim degree beam k rows at end : ℕ} (p : n ≡ the_n vs) (q : dim ≡ the_dim vs) (r : degree ≡ the_degree vs) (s : beam ≡ get_or vs 4 0)
       (t : k ≡ get_or vs 5 0) (places : PlacesOf vs rows at end) where
     abbrev made : SearchCall
-    made = call_of n dim (part 0 (rows - 6) vectors) degree beam k (get_or vs 3 0) (part rows at vs) (part 0 dim query) words floats ids dists
+    made = call_of n dim (take (rows - 6) vectors) degree beam k (get_or vs 3 0) (part rows at vs) (take dim query) words floats ids dists
 
     made_is : made ≡ call
     unfolding the_rows part_at
     made_is = rw (vectors_part, rows_part, query_part, p, q, r, s, t) refl
       where
-        vectors_part : part 0 (rows - 6) vectors ≡ the_vectors vs
-        vectors_part = let a : rows - 6 - 0 ≡ the_n vs * the_dim vs = omega (arith, places.rows_at) in rw a ready.vectors_are
+        vectors_part : take (rows - 6) vectors ≡ the_vectors vs
+        vectors_part = let a : rows - 6 ≡ the_n vs * the_dim vs = omega (arith, places.rows_at) in rw a ready.vectors_are
 
         rows_part : part rows at vs ≡ the_rows vs
         rows_part = let b : at - rows ≡ the_n vs * the_degree vs = omega (arith, places.query_at) in rw (b, places.rows_at) refl
 
-        query_part : part 0 dim query ≡ the_query vs
-        query_part = rw (sub-zero dim, q) ready.query_are
+        query_part : take dim query ≡ the_query vs
+        query_part = rw q ready.query_are
 
     pub search_tells : {o : SearchOut} → SearchMeets made o → Told vs ids o
     search_tells {o} m = tells (subst (λ (z : SearchCall). SearchMeets z o) made_is m)

@@ -3,13 +3,11 @@ use mathlib.Core.Path.{◌≡◌, refl, sym, ◌∙◌}
 use mathlib.Core.Bool.{Bool, true, false, not, cond}
 use mathlib.Core.List.{List}
 use Prim.Native.Nat.{ℕ, ◌≤◌, ◌<◌}
-use native.Mathlib.Nat.{sub-zero}
 use borrow.Author.Tests.{le-ltb}
-use lib.ListN.{length}
+use lib.ListN.{length, take}
 use Rattle.definition.specs.Refusals.{◌when◌else◌, search_number}
 use Rattle.definition.specs.Outcome.{found, by_number}
 use Rattle.definition.specs.Seek.{well_formed, seek_call, print_refused, print_found, seek, seek_number, malformed, most_input, values}
-use Rattle.laws.specs.Parts.{part}
 use Rattle.seek_text.specs.Text.{Values, Taken}
 use Rattle.seek_print.specs.Printed.{Put}
 use Rattle.seek_answer.specs.Answering.{answer_of, values_of, seek_long}
@@ -34,9 +32,9 @@ unfolding ◌when◌else◌ by_number
 by_13 true x m = refl
 by_13 false x m = refl
 
-pub text_read : {text vals out₀ out : List ℕ} {count e : ℕ} → length text ≤ 65536 → Values text vals count → Put (values_of (part 0 count vals)) out₀ 0 out e
+pub text_read : {text vals out₀ out : List ℕ} {count e : ℕ} → length text ≤ 65536 → Values text vals count → Put (values_of (take count vals)) out₀ 0 out e
     → Put (seek text) out₀ 0 out e
 unfolding seek seek_number malformed most_input values_of answer_of
 text_read {text} {count = count} h v g =
     let call = seek_call (values text) in
-    rw (le-ltb 65536 (length text) h, by_13 (well_formed (values text)) (search_number call) (print_found (found call))) (rw (sub-zero count, v.are) at g)
+    rw (le-ltb 65536 (length text) h, by_13 (well_formed (values text)) (search_number call) (print_found (found call))) (rw v.are at g)

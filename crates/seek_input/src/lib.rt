@@ -62,7 +62,7 @@ pub fn print_answer<W: Write>(to: &mut W, text: &[u8], count: usize) -> io::Resu
     let mut dists = [0.0f32; 256];
     let mut out = [0u8; 10816];
     let n = seek_answer::answer_text(
-        &text[0..count],
+        &text[..count],
         &mut vals,
         &mut vectors,
         &mut query,

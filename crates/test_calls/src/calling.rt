@@ -1,173 +1,119 @@
 // The public call of a case. Of each slice it is lent the front, as long as the case has it, and at most all.
 
-use super::cases::Case;
+use super::cases::{Case, Kind, Lists};
 use definition::Answer;
-use laws::least;
 
-fn call_distance(c: Case, vectors: &[u8], query: &[u8]) -> Answer {
-    let vl = least(c.vectors, vectors.len());
-    let ql = least(c.query, query.len());
-    metric::distance(&vectors[0..vl], &query[0..ql])
+// What a call may write, lent full of 77, so that a word that no call wrote shows; but the table is the one that is read.
+#[derive(Drop)]
+pub struct Room {
+    pub table: [u32; 6000],
+    pub wide: [u32; 6000],
+    pub closed: [u32; 6000],
+    pub words: [u32; 36000],
+    pub floats: [f32; 3100],
+    pub ids: [u32; 300],
+    pub dists: [f32; 300],
 }
 
-fn call_medoid(c: Case, vectors: &[u8], pivots: &[u32]) -> Answer {
-    let vl = least(c.vectors, vectors.len());
-    let pl = least(c.list, pivots.len());
-    medoid::medoid(c.n, c.dim, &vectors[0..vl], &pivots[0..pl])
+pub fn front<T: Copy>(xs: &[T], many: usize) -> &[T] {
+    &xs[..many.min(xs.len())]
 }
 
-fn call_search(
-    c: Case,
-    vectors: &[u8],
-    query: &[u8],
-    table: &[u32],
-    words: &mut [u32],
-    floats: &mut [f32],
-    ids: &mut [u32],
-    dists: &mut [f32],
-) -> Answer {
-    let vl = least(c.vectors, vectors.len());
-    let ql = least(c.query, query.len());
-    let tl = least(c.table, table.len());
-    let wl = least(c.words, words.len());
-    let fl = least(c.floats, floats.len());
-    let il = least(c.ids, ids.len());
-    let dl = least(c.dists, dists.len());
+fn front_mut<T: Copy>(xs: &mut [T], many: usize) -> &mut [T] {
+    let end = many.min(xs.len());
+    &mut xs[..end]
+}
+
+fn call_distance(c: Case, lists: &Lists) -> Answer {
+    metric::distance(
+        front(&lists.vectors, c.vectors),
+        front(&lists.query, c.query),
+    )
+}
+
+fn call_medoid(c: Case, lists: &Lists) -> Answer {
+    let vectors = front(&lists.vectors, c.vectors);
+    medoid::medoid(c.n, c.dim, vectors, front(&lists.list, c.list))
+}
+
+fn call_search(c: Case, lists: &Lists, room: &mut Room) -> Answer {
     search::search(
         c.n,
         c.dim,
-        &vectors[0..vl],
+        front(&lists.vectors, c.vectors),
         c.params.degree,
         c.params.beam,
         c.k,
         c.start,
-        &table[0..tl],
-        &query[0..ql],
-        &mut words[0..wl],
-        &mut floats[0..fl],
-        &mut ids[0..il],
-        &mut dists[0..dl],
+        front(&room.table, c.table),
+        front(&lists.query, c.query),
+        front_mut(&mut room.words, c.words),
+        front_mut(&mut room.floats, c.floats),
+        front_mut(&mut room.ids, c.ids),
+        front_mut(&mut room.dists, c.dists),
     )
 }
 
-fn call_build(
-    c: Case,
-    vectors: &[u8],
-    order: &[u32],
-    seeds: &[u32],
-    opening: &[u32],
-    wide: &mut [u32],
-    closed: &mut [u32],
-    words: &mut [u32],
-    floats: &mut [f32],
-) -> Answer {
-    let vl = least(c.vectors, vectors.len());
-    let ol = least(c.list, order.len());
-    let sl = least(c.seeds, seeds.len());
-    let tl = least(c.table, opening.len());
-    let al = least(c.wide, wide.len());
-    let cl = least(c.closed, closed.len());
-    let wl = least(c.words, words.len());
-    let fl = least(c.floats, floats.len());
+fn call_build(c: Case, lists: &Lists, room: &mut Room) -> Answer {
     build::build(
         c.n,
         c.dim,
-        &vectors[0..vl],
+        front(&lists.vectors, c.vectors),
         c.params,
         c.start,
-        &order[0..ol],
-        &seeds[0..sl],
-        &opening[0..tl],
-        &mut wide[0..al],
-        &mut closed[0..cl],
-        &mut words[0..wl],
-        &mut floats[0..fl],
+        front(&lists.list, c.list),
+        front(&lists.seeds, c.seeds),
+        front(&room.table, c.table),
+        front_mut(&mut room.wide, c.wide),
+        front_mut(&mut room.closed, c.closed),
+        front_mut(&mut room.words, c.words),
+        front_mut(&mut room.floats, c.floats),
     )
 }
 
 // The table that is read is also the one that is written.
-fn call_batch(
-    c: Case,
-    vectors: &[u8],
-    nodes: &[u32],
-    seeds: &[u32],
-    table: &mut [u32],
-    words: &mut [u32],
-    floats: &mut [f32],
-) -> Answer {
-    let vl = least(c.vectors, vectors.len());
-    let nl = least(c.list, nodes.len());
-    let sl = least(c.seeds, seeds.len());
-    let tl = least(c.table, table.len());
-    let wl = least(c.words, words.len());
-    let fl = least(c.floats, floats.len());
+fn call_batch(c: Case, lists: &Lists, room: &mut Room) -> Answer {
     batch::batch(
         c.n,
         c.dim,
-        &vectors[0..vl],
+        front(&lists.vectors, c.vectors),
         c.params,
         c.start,
-        &nodes[0..nl],
-        &seeds[0..sl],
-        &mut table[0..tl],
-        &mut words[0..wl],
-        &mut floats[0..fl],
+        front(&lists.list, c.list),
+        front(&lists.seeds, c.seeds),
+        front_mut(&mut room.table, c.table),
+        front_mut(&mut room.words, c.words),
+        front_mut(&mut room.floats, c.floats),
     )
 }
 
-fn call_close(
-    c: Case,
-    vectors: &[u8],
-    table: &[u32],
-    closed: &mut [u32],
-    words: &mut [u32],
-    floats: &mut [f32],
-) -> Answer {
-    let vl = least(c.vectors, vectors.len());
-    let tl = least(c.table, table.len());
-    let cl = least(c.closed, closed.len());
-    let wl = least(c.words, words.len());
-    let fl = least(c.floats, floats.len());
+fn call_close(c: Case, lists: &Lists, room: &mut Room) -> Answer {
     build::close(
         c.n,
         c.dim,
-        &vectors[0..vl],
+        front(&lists.vectors, c.vectors),
         c.params,
-        &table[0..tl],
-        &mut closed[0..cl],
-        &mut words[0..wl],
-        &mut floats[0..fl],
+        front(&room.table, c.table),
+        front_mut(&mut room.closed, c.closed),
+        front_mut(&mut room.words, c.words),
+        front_mut(&mut room.floats, c.floats),
     )
 }
 
-fn call_open(c: Case, opening: &[u32], wide: &mut [u32]) -> Answer {
-    let tl = least(c.table, opening.len());
-    let al = least(c.wide, wide.len());
-    build::open(c.n, c.params.degree, &opening[0..tl], &mut wide[0..al])
+fn call_open(c: Case, room: &mut Room) -> Answer {
+    let opening = front(&room.table, c.table);
+    let wide = front_mut(&mut room.wide, c.wide);
+    build::open(c.n, c.params.degree, opening, wide)
 }
 
-pub fn call_case(
-    c: Case,
-    vectors: &[u8],
-    query: &[u8],
-    list: &[u32],
-    seeds: &[u32],
-    table: &mut [u32],
-    wide: &mut [u32],
-    closed: &mut [u32],
-    words: &mut [u32],
-    floats: &mut [f32],
-    ids: &mut [u32],
-    dists: &mut [f32],
-) -> Answer {
-    let kind = c.kind;
-    match kind {
-        0 => call_distance(c, vectors, query),
-        1 => call_medoid(c, vectors, list),
-        2 => call_search(c, vectors, query, table, words, floats, ids, dists),
-        3 | 7 => call_build(c, vectors, list, seeds, table, wide, closed, words, floats),
-        4 | 8 => call_batch(c, vectors, list, seeds, table, words, floats),
-        5 => call_close(c, vectors, table, closed, words, floats),
-        _ => call_open(c, table, wide),
+pub fn call_case(c: Case, lists: &Lists, room: &mut Room) -> Answer {
+    match c.kind {
+        Kind::Distance => call_distance(c, lists),
+        Kind::Medoid => call_medoid(c, lists),
+        Kind::Search => call_search(c, lists, room),
+        Kind::Build(_) => call_build(c, lists, room),
+        Kind::Batch(_) => call_batch(c, lists, room),
+        Kind::Close => call_close(c, lists, room),
+        Kind::Open => call_open(c, room),
     }
 }

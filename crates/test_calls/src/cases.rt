@@ -1,7 +1,7 @@
 // Reading a case: its numbers, and the lists after them.
 
 use definition::Params;
-use test_words::{copy_bytes, copy_words, number_at, word_at};
+use test_words::{copy_words, number_at, word_at};
 
 // The alphas that the cases name: NaN, below 1, 1, the default, to the limit, and beyond it.
 fn named_alpha(i: u32) -> f32 {
@@ -22,10 +22,44 @@ fn named_alpha(i: u32) -> f32 {
     }
 }
 
+// How much is told of what a call wrote: a sum, or every row.
+#[derive(Clone, Copy, Debug, PartialEq, Eq)]
+pub enum Told {
+    Sums,
+    Rows,
+}
+
+#[derive(Clone, Copy, Debug, PartialEq, Eq)]
+pub enum Kind {
+    Distance,
+    Medoid,
+    Search,
+    Build(Told),
+    Batch(Told),
+    Close,
+    Open,
+}
+
+impl From<u32> for Kind {
+    fn from(kind: u32) -> Kind {
+        match kind {
+            0 => Kind::Distance,
+            1 => Kind::Medoid,
+            2 => Kind::Search,
+            3 => Kind::Build(Told::Sums),
+            4 => Kind::Batch(Told::Sums),
+            5 => Kind::Close,
+            7 => Kind::Build(Told::Rows),
+            8 => Kind::Batch(Told::Rows),
+            _ => Kind::Open,
+        }
+    }
+}
+
 // The numbers of a case, and the place of its first list.
 #[derive(Clone, Copy)]
 pub struct Case {
-    pub kind: u32,
+    pub kind: Kind,
     pub n: usize,
     pub dim: usize,
     pub params: Params,
@@ -45,10 +79,6 @@ pub struct Case {
     pub lists: usize,
 }
 
-fn after(at: usize, many: usize) -> usize {
-    at.wrapping_add(many)
-}
-
 fn params_at(cases: &[u32], at: usize) -> Params {
     Params {
         degree: number_at(cases, at, 3),
@@ -60,7 +90,7 @@ fn params_at(cases: &[u32], at: usize) -> Params {
 
 pub fn case_at(cases: &[u32], at: usize) -> Case {
     Case {
-        kind: word_at(cases, at, 0),
+        kind: Kind::from(word_at(cases, at, 0)),
         n: number_at(cases, at, 1),
         dim: number_at(cases, at, 2),
         params: params_at(cases, at),
@@ -77,29 +107,33 @@ pub fn case_at(cases: &[u32], at: usize) -> Case {
         list: number_at(cases, at, 17),
         seeds: number_at(cases, at, 18),
         table: number_at(cases, at, 19),
-        lists: after(at, 20),
+        lists: at.wrapping_add(20),
     }
 }
 
+// The lists that a call reads.
+#[derive(Drop)]
+pub struct Lists {
+    pub vectors: [u8; 4096],
+    pub query: [u8; 300],
+    pub list: [u32; 1024],
+    pub seeds: [u32; 1024],
+}
+
+fn low_byte(x: u32) -> u8 {
+    (x % 256) as u8
+}
+
 // Copies the five lists, and gives the place after them.
-pub fn fill_lists(
-    cases: &[u32],
-    c: Case,
-    vectors: &mut [u8],
-    query: &mut [u8],
-    list: &mut [u32],
-    seeds: &mut [u32],
-    table: &mut [u32],
-) -> usize {
-    let v = c.lists;
-    let q = after(v, c.vectors);
-    let l = after(q, c.query);
-    let s = after(l, c.list);
-    let t = after(s, c.seeds);
-    copy_bytes(cases, v, vectors);
-    copy_bytes(cases, q, query);
-    copy_words(cases, l, list);
-    copy_words(cases, s, seeds);
-    copy_words(cases, t, table);
-    after(t, c.table)
+pub fn fill_lists(cases: &[u32], c: Case, lists: &mut Lists, table: &mut [u32]) -> usize {
+    let query = c.lists.wrapping_add(c.vectors);
+    let list = query.wrapping_add(c.query);
+    let seeds = list.wrapping_add(c.list);
+    let rows = seeds.wrapping_add(c.seeds);
+    copy_words(cases, c.lists, &mut lists.vectors, low_byte);
+    copy_words(cases, query, &mut lists.query, low_byte);
+    copy_words(cases, list, &mut lists.list, |x| x);
+    copy_words(cases, seeds, &mut lists.seeds, |x| x);
+    copy_words(cases, rows, table, |x| x);
+    rows.wrapping_add(c.table)
 }

@@ -7,8 +7,8 @@
 // lent, the words beyond the lent part included. 7 and 8 are build and batch with every row of their tables printed; k is then the words of a wide row.
 #![tactic(auto)]
 
-use calling::call_case;
-use cases::{case_at, fill_lists};
+use calling::{Room, call_case};
+use cases::{Lists, case_at, fill_lists};
 use std::io;
 use telling::tell_case;
 use test_words::{read_input, word_at};
@@ -17,46 +17,27 @@ mod calling;
 mod cases;
 mod telling;
 
-// Gives the place of the next case. Slices that are written are lent full of 77, so that a word that no call wrote shows.
+// Gives the place of the next case.
 fn replay_case(rt: &impl Print, cases: &[u32], at: usize) -> io::Result<usize> {
-    let mut vectors = [0u8; 4096];
-    let mut query = [0u8; 300];
-    let mut list = [0u32; 1024];
-    let mut seeds = [0u32; 1024];
-    let mut table = [0u32; 6000];
-    let mut wide = [77u32; 6000];
-    let mut closed = [77u32; 6000];
-    let mut words = [77u32; 36000];
-    let mut floats = [77.0f32; 3100];
-    let mut ids = [77u32; 300];
-    let mut dists = [77.0f32; 300];
+    let mut lists = Lists {
+        vectors: [0; 4096],
+        query: [0; 300],
+        list: [0; 1024],
+        seeds: [0; 1024],
+    };
+    let mut room = Room {
+        table: [0; 6000],
+        wide: [77; 6000],
+        closed: [77; 6000],
+        words: [77; 36000],
+        floats: [77.0; 3100],
+        ids: [77; 300],
+        dists: [77.0; 300],
+    };
     let c = case_at(cases, at);
-    let next = fill_lists(
-        cases,
-        c,
-        &mut vectors,
-        &mut query,
-        &mut list,
-        &mut seeds,
-        &mut table,
-    );
-    let a = call_case(
-        c,
-        &vectors,
-        &query,
-        &list,
-        &seeds,
-        &mut table,
-        &mut wide,
-        &mut closed,
-        &mut words,
-        &mut floats,
-        &mut ids,
-        &mut dists,
-    );
-    tell_case(
-        rt, a, c, &table, &wide, &closed, &words, &floats, &ids, &dists,
-    )?;
+    let next = fill_lists(cases, c, &mut lists, &mut room.table);
+    let a = call_case(c, &lists, &mut room);
+    tell_case(rt, a, c, &room)?;
     Ok(next)
 }
 

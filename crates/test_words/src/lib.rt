@@ -3,92 +3,68 @@
 
 ghost use Rattle.std.specs.Prelude.{◌≡◌, length};
 
-use std::io;
+use std::fmt::{Display, Formatter};
 use std::io::Read;
+use std::{fmt, io};
 
-const PADDING: u32 = 4294967295;
+pub const PADDING: u32 = u32::MAX;
 
 // What a byte of text stands in.
-const BLANK: u32 = 0;
-
-const WORD: u32 = 1;
-
-const COMMENT: u32 = 2;
-
-// A comment goes from `#` to the end of its line.
-fn next_part(part: u32, b: u8) -> u32 {
-    if b == b'\n' {
-        return BLANK;
-    }
-    if part == COMMENT {
-        return COMMENT;
-    }
-    if b == b'#' {
-        return COMMENT;
-    }
-    if b <= b' ' {
-        return BLANK;
-    }
-    WORD
+#[derive(Clone, Copy, Debug, PartialEq, Eq)]
+enum Part {
+    Blank,
+    Word,
+    Comment,
 }
 
-// The place moves on where a word ends.
-fn next_place(at: usize, part: u32, next: u32) -> usize {
-    if part != WORD {
-        return at;
-    }
-    if next == WORD {
-        return at;
-    }
-    at.wrapping_add(1)
-}
-
-// Modulo 2^32.
-fn ten_times(x: u32) -> u32 {
-    x.wrapping_mul(10)
-}
-
-// The value after one more byte of its word: a digit, or `-`, which is padding.
-fn next_value(x: u32, next: u32, b: u8) -> u32 {
-    if next != WORD {
-        return 0;
-    }
-    if b == b'-' {
-        return PADDING;
-    }
-    let digit = u32::from(b).wrapping_sub(48);
-    ten_times(x).wrapping_add(digit)
-}
-
-fn put_word(words: &mut [u32], at: usize, x: u32)
-    ensures { length words.new ≡ length words.old }
-{
-    if at < words.len() {
-        words[at] = x;
+impl Part {
+    // A comment goes from `#` to the end of its line.
+    fn next(self, b: u8) -> Part {
+        match (self, b) {
+            (_, b'\n') => Part::Blank,
+            (Part::Comment, _) | (_, b'#') => Part::Comment,
+            (_, 0..=b' ') => Part::Blank,
+            _ => Part::Word,
+        }
     }
 }
 
 // How far a text is read: what its last byte stands in, the place of the word that is being read or comes next, and its value so far.
 #[derive(Clone, Copy)]
 struct Reading {
-    part: u32,
+    part: Part,
     at: usize,
     value: u32,
 }
 
-// The words of a stretch of text: decimals or `-`, with blanks, newlines and comments between them.
-fn read_words(r: Reading, text: &[u8], words: &mut [u32]) -> Reading {
-    let mut part = r.part;
-    let mut at = r.at;
-    let mut value = r.value;
-    for b in text {
-        let next = next_part(part, *b);
-        at = next_place(at, part, next);
-        value = next_value(value, next, *b);
-        put_word(words, at, value);
-        part = next;
+impl Reading {
+    // One byte more. The place moves on where a word ends; the value is of a digit more, modulo 2^32, or `-`, which is padding.
+    fn next(self, b: u8) -> Reading {
+        let part = self.part.next(b);
+        let ended = self.part == Part::Word && part != Part::Word;
+        let at = self.at.wrapping_add(usize::from(ended));
+        let value = match (part, b) {
+            (Part::Word, b'-') => PADDING,
+            (Part::Word, _) => self
+                .value
+                .wrapping_mul(10)
+                .wrapping_add(u32::from(b).wrapping_sub(48)),
+            _ => 0,
+        };
+        Reading { part, at, value }
     }
-    Reading { part, at, value }
+}
+
+// The words of a stretch of text: decimals or `-`, with blanks, newlines and comments between them.
+fn read_words(from: Reading, text: &[u8], words: &mut [u32]) -> Reading {
+    let mut r = from;
+    for b in text {
+        r = r.next(*b);
+        if let Some(word) = words.get_mut(r.at) {
+            *word = r.value;
+        }
+    }
+    r
 }
 
 // The words of standard input, of which at most 2^20 bytes are read. Words that are not there stay as they are.
@@ -96,7 +72,7 @@ pub fn read_input(rt: &impl Input, words: &mut [u32]) -> io::Result<()> {
     let mut input = rt.reader().take(1048576);
     let mut text = [0u8; 65536];
     let mut r = Reading {
-        part: BLANK,
+        part: Part::Blank,
         at: 0,
         value: 0,
     };
@@ -112,38 +88,56 @@ pub fn read_input(rt: &impl Input, words: &mut [u32]) -> io::Result<()> {
 
 // The word `far` places after `at`; 0 beyond the last.
 pub fn word_at(words: &[u32], at: usize, far: usize) -> u32 {
-    let i = at.wrapping_add(far);
-    if i < words.len() {
-        return words[i];
-    }
-    0
+    words.get(at.wrapping_add(far)).copied().unwrap_or(0)
 }
 
 pub fn number_at(words: &[u32], at: usize, far: usize) -> usize {
-    let x = word_at(words, at, far);
-    x as usize
+    word_at(words, at, far) as usize
 }
 
-// The words from `at` on, as many as `list` has room for.
-pub fn copy_words(words: &[u32], at: usize, list: &mut [u32])
+// What the words from `at` on stand for, as many as `list` has room for.
+pub fn copy_words<T: Copy, F: Fn(u32) -> T>(words: &[u32], at: usize, list: &mut [T], of_word: F)
+    requires { F.IsAlwaysCallable of_word }
     ensures { length list.new ≡ length list.old }
 {
     for (i, x) in list.iter_mut().enumerate() {
-        *x = word_at(words, at, i);
+        *x = of_word(word_at(words, at, i));
     }
 }
 
-fn byte(x: u32) -> u8 {
-    let low = x % 256;
-    low as u8
+// `low`, or with `step` more where x is not below that.
+fn at_least(x: f32, low: u32, step: u32) -> u32 {
+    let next = low.wrapping_add(step);
+    if x < std::num::nearest_u32_to_f32(next) {
+        low
+    } else {
+        next
+    }
 }
 
-// The same, each word a byte.
-pub fn copy_bytes(words: &[u32], at: usize, list: &mut [u8])
-    ensures { length list.new ≡ length list.old }
-{
-    for (i, x) in list.iter_mut().enumerate() {
-        *x = byte(word_at(words, at, i));
+// The whole number that a distance is, below 2^24; 2^24 - 1 for any float beyond or NaN.
+pub fn float_word(x: f32) -> u32 {
+    let mut low: u32 = 0;
+    for i in 0..24u32 {
+        low = at_least(x, low, 8388608 >> i);
+    }
+    low
+}
+
+// What an element counts for in a sum.
+pub trait Word: Copy {
+    fn word(self) -> u32;
+}
+
+impl Word for u32 {
+    fn word(self) -> u32 {
+        self
+    }
+}
+
+impl Word for f32 {
+    fn word(self) -> u32 {
+        float_word(self)
     }
 }
 
@@ -152,82 +146,31 @@ fn mixed(sum: u32, x: u32) -> u32 {
     sum.wrapping_add(x).wrapping_mul(16777619)
 }
 
-// A sum that depends on every word and its place.
-pub fn words_sum(xs: &[u32]) -> u32 {
-    let mut sum: u32 = 2166136261;
-    for x in xs {
-        sum = mixed(sum, *x);
-    }
-    sum
+// A sum that depends on every element and its place.
+pub fn words_sum<T: Word>(xs: &[T]) -> u32 {
+    xs.iter().fold(2166136261, |sum, x| mixed(sum, x.word()))
 }
 
-// `low`, or with `step` more where x is not below that.
-fn at_least(x: f32, low: u32, step: u32) -> u32 {
-    let next = low.wrapping_add(step);
-    if x < std::num::nearest_u32_to_f32(next) {
-        return low;
-    }
-    next
-}
+// A word of a table, `-` for padding.
+#[derive(Clone, Copy, Debug, PartialEq, Eq)]
+pub struct Entry(pub u32);
 
-// The whole number that a distance is, below 2^24; 2^24 - 1 for any float beyond or NaN.
-pub fn float_word(x: f32) -> u32 {
-    let mut low: u32 = 0;
-    let mut step: u32 = 8388608;
-    while 0 < step {
-        low = at_least(x, low, step);
-        step = step / 2;
-    }
-    low
-}
-
-pub fn floats_sum(xs: &[f32]) -> u32 {
-    let mut sum: u32 = 2166136261;
-    for x in xs {
-        sum = mixed(sum, float_word(*x));
-    }
-    sum
-}
-
-pub fn say(rt: &impl Print, text: &[u8]) -> io::Result<()> {
-    rt.write_all(text)
-}
-
-pub fn say_number(rt: &impl Print, x: u64) -> io::Result<()> {
-    rt.print(x)
-}
-
-// A number with a space after it.
-pub fn say_field(rt: &impl Print, x: u64) -> io::Result<()> {
-    say_number(rt, x)?;
-    say(rt, b" ")
-}
-
-// A space and a word of a table, `-` for padding.
-pub fn say_word(rt: &impl Print, x: u32) -> io::Result<()> {
-    say(rt, b" ")?;
-    if x == PADDING {
-        say(rt, b"-")
-    } else {
-        say_number(rt, u64::from(x))
+impl Display for Entry {
+    fn fmt<W: fmt::Write>(&self, f: &mut Formatter<W>) -> fmt::Result {
+        match self.0 {
+            PADDING => write!(f, "-"),
+            x => write!(f, "{x}"),
+        }
     }
 }
 
 // A row ends after each `width` words.
-fn end_row(rt: &impl Print, i: usize, width: usize) -> io::Result<()> {
-    if width == 0 {
-        return Ok(());
-    }
-    if i % width == 0 {
-        return say(rt, b"\n");
-    }
-    Ok(())
-}
-
 pub fn say_rows(rt: &impl Print, xs: &[u32], width: usize) -> io::Result<()> {
     for (i, x) in xs.iter().enumerate() {
-        say_word(rt, *x)?;
-        end_row(rt, i + 1, width)?;
+        print!(rt; " {}", Entry(*x))?;
+        if (i + 1).checked_rem(width) == Some(0) {
+            println!(rt; "")?;
+        }
     }
     Ok(())
 }
