@@ -1,13 +1,2 @@
-// The laws are in specs/. The code here is what several crates call: the lesser of two numbers.
+// Laws over the definition's small functions, which several crates cite. No code; they stand in specs/.
 #![tactic(auto)]
-
-ghost use Rattle.std.specs.Prelude.{◌≡◌, min};
-
-pub fn least(a: usize, b: usize) -> usize
-    ensures { result ≡ min a b }
-{
-    if a < b {
-        return a;
-    }
-    b
-}
