@@ -40,6 +40,7 @@ pub fn count_entries(n: usize, words: &[u32]) -> usize
 {
     let most = n as u32;
     let mut count: u32 = 0;
+    // By hand: `filter` and `count` go on word by word, with a branch at each (seen in the machine code).
     for &word in words {
         if word < most {
             count += 1;
@@ -63,6 +64,7 @@ fn bad_rows(n: usize, width: usize, table: &[u32]) -> bool
     ensures { result ≡ not (build_rule n width table.now) }
 {
     let mut marks = [0u8; 16384];
+    // By hand: rows may have no words by the contract, which `chunks_exact` does not take.
     for i in 0..n {
         let at = i * width;
         if bad_row(n, i, &mut marks, &table[at..at + width]) {

@@ -39,6 +39,7 @@ pub fn fill_rows(state: u64, n: usize, degree: usize, table: &mut [u32]) -> u64
 {
     let entries = n as u32;
     let mut s = state;
+    // By hand: rows may have no words by the contract, which `chunks_exact_mut` does not take.
     for i in 0..n {
         s = advance(s);
         let r = drawn(entries - 1, s);
