@@ -5,7 +5,7 @@ use Prim.Native.Nat.{ℕ, suc, ◌+◌, ◌≤◌, ◌<◌}
 use native.Mathlib.Numerals.{add-one}
 use native.Mathlib.Omega.{arith}
 use lib.ListN.{length, get_or, take, drop, length-drop}
-use lib.Seq.{drop-cons, length-take-le, take-suc, take-length, take-take, get_or-take}
+use lib.Seq.{drop-cons, length-take-le, take-suc, take-take, get_or-take}
 use Rattle.definition.specs.Beam.{Item, item}
 use Rattle.definition.specs.Greedy.{State, meet}
 use Rattle.laws.specs.All.{All, all_at, all_take, all_weaker}
@@ -118,8 +118,3 @@ module _ (beam : ℕ) (s₀ : Standing) (ids dists : List ℕ) (same : length id
   met_next s j k next m x d xs ds e q s₂ a low =
       let own : Admitted beam s s₂ (get_or dists j 0) (get_or ids j 0) = rw (front_is dists j d ds q, front_is ids j x xs e) a in
       rw next (met_more s j m (front_below ids j x xs e) s₂ own low, sym (rest_is ids j x xs e), sym (rest_is dists j d ds q))
-
-  pub met_all : (s : Standing) (j : ℕ) → MetTo beam s₀ ids dists s j → length ids ≤ j → Met beam s₀ s ids dists
-  met_all s j m h =
-      let e : j ≡ length ids = omega (arith, m.le) in
-      rw (ap (λ (i : ℕ). take i ids) e ∙ take-length ids, ap (λ (i : ℕ). take i dists) (e ∙ same) ∙ take-length dists) at m.met
