@@ -1,9 +1,8 @@
 -- The row pruned from a pool within the two slices: ids and distances of the pool are read where they lie, and the factors are lent from the front of the
 -- floats. The row is made beside the words, of which the pool is lent, and then put down in its place: as it is, since it is as wide.
-use mathlib.Core.Path.{◌≡◌, sym, ap, ap₂, ◌∙◌, subst}
+use mathlib.Core.Path.{◌≡◌, sym, ap, ap₂, ◌∙◌}
 use mathlib.Core.List.{List, ◌++◌, append-nil}
 use Prim.Native.Nat.{ℕ, ◌+◌, ◌-◌, ◌≤◌}
-use native.Mathlib.Nat.{le_of_eq}
 use native.Mathlib.Omega.{arith}
 use lib.Ieee.{Float}
 use lib.ListN.{length, replicate}
@@ -14,12 +13,10 @@ use Rattle.definition.specs.Prune.{prune}
 use Rattle.definition.specs.Tables.{pad, row, padded}
 use Rattle.laws.specs.Listed.{fresh_width}
 use Rattle.laws.specs.Paired.{items_of}
-use Rattle.laws.specs.Parts.{part, put, part_length, part_front_length, within_wider, put_part, put_within}
+use Rattle.laws.specs.Parts.{part, put, part_length, within_wider, put_part, put_within}
 use Rattle.scratch.specs.Layout.{pool_at, pool_dists_at, most_factors, fresh_row_at}
 use Rattle.scratch.specs.Lent.{Lent, lent}
 use Rattle.given.specs.Given.{Given}
-use Rattle.prune_pool.specs.Says.{Distinct}
-use Rattle.prune.specs.Says.{Measurable}
 use Rattle.table.specs.Rows.{Written, Stretched, row_here}
 use Rattle.batch_fresh.specs.Says.{lent_ids, lent_dists, Prunable, pruned_for, Fresh}
 
@@ -51,17 +48,6 @@ module _ {g : Given} {place len : ℕ} {at : Lent} (r : Prunable g place len at)
 
   ds_are : ds ≡ lent_dists g.n len at.words
   ds_are = ap (λ (k : ℕ). part k (k + len) at.words) dists-is
-
-  pub lent_measurable : Measurable g.dim g.vectors ids ds
-  lent_measurable =
-      subst (λ (l : List ℕ). Measurable g.dim g.vectors l ds) (sym ids_are)
-      (subst (Measurable g.dim g.vectors (lent_ids g.n len at.words)) (sym ds_are) r.measurable)
-
-  pub lent_apart : Distinct ids
-  lent_apart = subst Distinct (sym ids_are) r.apart
-
-  pub lent_factors : most_factors ≤ length (part 0 most_factors at.floats)
-  lent_factors = le_of_eq (sym (part_front_length most_factors at.floats r.float_room))
 
   -- the row was made
   module _ (node : ℕ) (made : List ℕ) {k : ℕ}

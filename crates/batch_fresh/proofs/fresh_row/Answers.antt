@@ -1,6 +1,5 @@
 -- `fresh_row` meets its contract. The pool is the definition's in some order, so the row pruned from it is the definition's.
 use Rattle.batch_fresh.proofs.Making.{prune_asks, row_made, row_between}
-use Rattle.theory.specs.Metric.{Bytes}
 use Rattle.batch_fresh.proofs.fresh_row.Goals as goal
 
 pub prune_fresh-requires : goal.prune_fresh-requires
@@ -8,19 +7,12 @@ prune_fresh-requires c =
     let r = c.requires in
     prune_asks r.walk_limits (λ j. (c.type_inv.vectors j).fits) c.node_pool-c.ensures.node_pool r.between r.insertable.place_in r.most_factors_in_bounds
 
-pub returns : goal.returns
-returns c =
+pub returns-clause-row_made : goal.returns-clause-row_made
+returns-clause-row_made c =
     let r = c.requires in
-    let bytes : Bytes c.args.vectors.now = λ j. (c.type_inv.vectors j).fits in
-    let pool = c.node_pool-c.ensures in
-    record {
-      row_made = row_made r.walk_limits bytes pool.node_pool r.between r.insertable.place_in c.prune_fresh.ensures;
-      between_2 = row_between r.walk_limits bytes pool.node_pool r.between r.insertable.place_in c.prune_fresh.ensures;
-      value = pool.epoch_value;
-    }
+    row_made r.walk_limits (λ j. (c.type_inv.vectors j).fits) c.node_pool-c.ensures.node_pool r.between r.insertable.place_in c.prune_fresh.ensures
 
-pub shape_of-words : goal.shape_of-words
-shape_of-words c = (returns c).row_made.words_kept.size
-
-pub shape_of-floats : goal.shape_of-floats
-shape_of-floats c = (returns c).row_made.floats_kept.size
+pub returns-clause-between_2 : goal.returns-clause-between_2
+returns-clause-between_2 c =
+    let r = c.requires in
+    row_between r.walk_limits (λ j. (c.type_inv.vectors j).fits) c.node_pool-c.ensures.node_pool r.between r.insertable.place_in c.prune_fresh.ensures

@@ -11,41 +11,35 @@ use Rattle.batch_fresh.specs.Made.{plan_of}
 use Rattle.batch_fresh.proofs.Making.{holding_blank}
 use Rattle.batch_fresh.proofs.node_pool.Goals as goal
 
-pub collect_pool-requires : goal.collect_pool-requires
-collect_pool-requires c =
+pub collect_pool-requires-clause-walkable : goal.collect_pool-requires-clause-walkable
+collect_pool-requires-clause-walkable c =
     let a = c.args in
     let limits = c.requires.walk_limits.limits in
-    let i = c.requires.insertable in
-    let v = vector_in a.g.dim a.vectors.now a.g.n a.node limits.vectors_are i.node_in in record {
-      walkable = record {
-        ground =
-            record {
-              measures = record { vectors_are = limits.vectors_are; query_is = lent_length a.g.dim a.vectors.now a.node v; few = limits.dim_few };
-              size = c.requires.wide.size;
-              narrow = omega (arith, (degree-slack a.g.params.degree a.g.slack limits.width_is limits.degree_few).1);
-            };
-        keeps = refl;
-        rows = c.requires.wide.words;
-      };
-      seeds_bound = (c.requires.seeds_bound, holding_blank c.requires.between);
-      node_lt_n = (i.node_in, i.start_in, i.seeds_in);
+    let v = vector_in a.g.dim a.vectors.now a.g.n a.node limits.vectors_are c.requires.insertable.node_in in
+    record {
+      ground =
+          record {
+            measures = record { vectors_are = limits.vectors_are; query_is = lent_length a.g.dim a.vectors.now a.node v; few = limits.dim_few };
+            size = c.requires.wide.size;
+            narrow = omega (arith, (degree-slack a.g.params.degree a.g.slack limits.width_is limits.degree_few).1);
+          };
+      keeps = refl;
+      rows = c.requires.wide.words;
     }
 
-pub returns : goal.returns
-returns c =
+pub collect_pool-requires-clause-seeds_bound : goal.collect_pool-requires-clause-seeds_bound
+collect_pool-requires-clause-seeds_bound c = (c.requires.seeds_bound, holding_blank c.requires.between)
+
+pub returns-clause-node_pool : goal.returns-clause-node_pool
+returns-clause-node_pool c =
     let k = c.collect_pool in
     let a = c.args in
     let plan = plan_of (given a.g a.vectors.now) in
-    let from : List ℕ → ℕ → ℕ = from_query a.g.dim a.vectors.now in record {
-      node_pool = record {
-        grown =
-            subst
-            (λ (v : List ℕ). Grown plan k.result.epoch (stage a.words.now (a.p + 1) 0) (stage k.new.words (a.p + 1) k.result.len)
-            (pooled_ids plan (from v) a.wide.now a.node a.start a.seeds.now) (from v))
-            (lent_vector a.g.dim a.vectors.now a.node) k.ensures.grown;
-      };
-      epoch_value = k.ensures.epoch_value;
+    let from : List ℕ → ℕ → ℕ = from_query a.g.dim a.vectors.now in
+    record {
+      grown =
+          subst
+          (λ (v : List ℕ). Grown plan k.result.epoch (stage a.words.now (a.p + 1) 0) (stage k.new.words (a.p + 1) k.result.len)
+          (pooled_ids plan (from v) a.wide.now a.node a.start a.seeds.now) (from v))
+          (lent_vector a.g.dim a.vectors.now a.node) k.ensures.grown;
     }
-
-pub shape_of-words : goal.shape_of-words
-shape_of-words c = (returns c).node_pool.grown.kept.size

@@ -1,16 +1,6 @@
 -- `prune_fresh` meets its contract: the pool and the factors are lent to pruning, then the row's place to its writer.
-use Rattle.batch_fresh.proofs.Pruning.{lent_measurable, lent_apart, lent_factors, fresh}
+use Rattle.batch_fresh.proofs.Pruning.{fresh}
 use Rattle.batch_fresh.proofs.prune_fresh.Goals as goal
-
-pub prune_neighbors-requires : goal.prune_neighbors-requires
-prune_neighbors-requires c =
-    let pool_is = c.pool_at-pool.ensures in
-    let dists_is = c.pool_dists_at-dists.ensures in
-    record {
-      measurable = lent_measurable c.requires pool_is dists_is;
-      distinct = lent_apart c.requires pool_is dists_is;
-      in_bounds = (lent_factors c.requires pool_is dists_is, c.requires.degree_few);
-    }
 
 pub returns : goal.returns
 returns c =
