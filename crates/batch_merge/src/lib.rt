@@ -110,6 +110,6 @@ pub fn merge(
         nodes,
         wide,
         words,
-        &mut floats[0..scratch::FACTORS],
+        &mut floats[..scratch::FACTORS],
     );
 }

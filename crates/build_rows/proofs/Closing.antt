@@ -7,6 +7,7 @@ use mathlib.Core.List.{List, Memᴰ as Mem}
 use borrow.Author.Tests.{leb-true, leb-false, lt-ltb, le-ltb}
 use lib.Dec.{leb, ltb}
 use lib.ListN.{length, take, drop, length-take}
+use lib.Seq.{length-take-le}
 use Rattle.definition.specs.Lists.{rising}
 use Rattle.definition.specs.Tables.{row, ids, padded}
 use Rattle.definition.specs.Prune.{prune, pruned_from}
@@ -22,7 +23,7 @@ use Rattle.given.specs.Given.{Given, setting, degree-slack}
 use Rattle.prune_pool.specs.Free.{candidates-free, apart_distinct}
 use Rattle.prune_pool.specs.Says.{Distinct}
 use Rattle.prune_fit.specs.Fits.{Fittable, Fitted, fitted_to, fitted-few}
-use Rattle.prune_fit.specs.Fronts.{fronts_same, members_below}
+use Rattle.prune_fit.specs.Fronts.{members_below}
 use Rattle.build_rows.specs.Says.{RowCloses, RowClosed, CloseReady, closed_to}
 use Rattle.laws.specs.Words.{ids-below, searchable_row}
 use Rattle.table.specs.Rows.{stretched_as, IdsCopied}
@@ -75,10 +76,10 @@ module _ {g : Given} {i : ℕ} {wide : List ℕ} {size room : ℕ} (r : RowClose
 
   module _ {list : List ℕ} {count : ℕ} (c : IdsCopied lent list count) where
     abbrev got : List ℕ
-    got = take (count - 0) list
+    got = take count list
 
     ids_are : got ≡ ids (row g.width wide i)
-    ids_are = let q : count - 0 ≡ count = omega arith in ap (λ (k : ℕ). take k list) q ∙ c.are ∙ ap ids (part-row g.width wide i)
+    ids_are = c.are ∙ ap ids (part-row g.width wide i)
 
     pub copied_few : count ≤ widest
     copied_few = let a = lent_few in let b = c.most in omega arith
@@ -86,7 +87,7 @@ module _ {g : Given} {i : ℕ} {wide : List ℕ} {size room : ℕ} (r : RowClose
     module _ {node : ℕ} (is : node ≡ i) where
       pub row_asks : (dists : List ℕ) → length list ≡ widest → length dists ≡ widest
           → Fittable g node g.params.degree got
-          × ((length (take (count - 0) dists) ≡ length got) × (most_factors ≤ room) × (node * g.params.degree + g.params.degree ≤ size))
+          × ((length (take count dists) ≡ length got) × (most_factors ≤ room) × (node * g.params.degree + g.params.degree ≤ size))
       row_asks dists sl sd =
           let few = copied_few in
           let own = r.within in (
@@ -98,7 +99,7 @@ module _ {g : Given} {i : ℕ} {wide : List ℕ} {size room : ℕ} (r : RowClose
               narrow = omega arith;
             },
             (
-              fronts_same list dists count (omega arith) (omega arith),
+              length-take-le count dists (omega arith) ∙ sym (length-take-le count list (omega arith)),
               r.factors,
               subst (λ (k : ℕ). k * g.params.degree + g.params.degree ≤ size) (sym is) r.to,
             ),

@@ -46,8 +46,8 @@ fn close_row(
         node,
         g.params.degree,
         closed,
-        &ids[0..count],
-        &mut dists[0..count],
+        &ids[..count],
+        &mut dists[..count],
         factors,
     );
 }
