@@ -6,7 +6,7 @@ use Rattle.seek_answer.proofs.answer_values.Goals as goal
 
 pub returns-then-not-take_search : goal.returns-then-not-take_search
 returns-then-not-take_search c =
-    values_bad c.take_search.ensures c.if-not-take_search.true c.put_refused.ensures
+    values_bad c.take_search.ensures c.if-not-take_search.true (rw (c.from.ensures) at c.put_refused.ensures)
 
 pub search_values-requires : goal.search_values-requires
 search_values-requires c =
