@@ -56,6 +56,7 @@ fn say_left(rt: &impl Print, c: Case, room: &Room) -> io::Result<()> {
 
 // The room that 01 states for n entries, which a call that is done leaves zero: `each` for each entry, and `beyond`.
 fn zeroed(a: Answer, n: usize, each: usize, beyond: usize) -> usize {
+    // By hand: the answer is C's, where 0 is no refusal.
     if a.number != 0 {
         return 0;
     }

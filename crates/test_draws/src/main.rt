@@ -44,6 +44,7 @@ fn show_seeds(rt: &impl Print, state: u64, n: usize, start: u32, extra: usize) -
     say_drawn(rt, "seeds", s, &out)
 }
 
+// By hand: this and the next are two calls; a closure would say no less.
 fn show_order(rt: &impl Print, state: u64, n: usize) -> io::Result<()> {
     let mut out = [77; 9];
     let s = draws::order_drawn(state, n, &mut out);
