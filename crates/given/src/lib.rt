@@ -20,7 +20,8 @@ impl<'a> Ground<'a> {
     // The samples of entry i.
     pub fn vector(self, i: usize) -> &'a [u8]
         requires { i * self.dim + self.dim ≤ length self.vectors.now }
-        ensures { result.now ≡ vector self.entry.dim self.entry.vectors.now i }
+        ensures is { result.now ≡ vector self.entry.dim self.entry.vectors.now i }
+        ensures size { length result.now ≡ self.entry.dim }
     {
         let at = i * self.dim;
         let end = at + self.dim;

@@ -1,11 +1,9 @@
 -- `node_pool` meets its contract. No stamp is the node's yet, so the pool begins empty; the query is the node's vector.
-use mathlib.Core.Path.{refl, ap, ◌∙◌, subst}
+use mathlib.Core.Path.{refl, subst}
 use Prim.Native.Nat.{ℕ, ◌+◌}
 use native.Mathlib.Omega.{arith}
 use mathlib.Core.List.{List}
-use lib.ListN.{length}
 use Rattle.definition.specs.Metric.{from_query}
-use Rattle.metric.specs.Laws.{vector_in, vector-length}
 use Rattle.given.specs.Given.{given, degree-slack}
 use Rattle.batch_pool.specs.Regions.{stage, Grown, pooled_ids}
 use Rattle.batch_fresh.specs.Made.{plan_of}
@@ -16,13 +14,11 @@ pub collect_pool-requires : goal.collect_pool-requires
 collect_pool-requires c =
     let a = c.args in
     let limits = c.requires.walk_limits.limits in
-    let i = c.requires.insertable in
-    let v = vector_in a.g.dim a.g.vectors.now a.g.n a.node limits.vectors_are i.node_in in
-    let query_is = ap length c.vector.ensures ∙ vector-length a.g.dim a.g.vectors.now a.node v in record {
+    let i = c.requires.insertable in record {
       walkable = record {
         ground =
             record {
-              measures = record { vectors_are = limits.vectors_are; query_is = query_is; few = limits.dim_few };
+              measures = record { vectors_are = limits.vectors_are; query_is = c.vector.ensures.size; few = limits.dim_few };
               size = c.requires.wide.size;
               narrow = omega (arith, (degree-slack a.g.params.degree a.g.slack limits.width_is limits.degree_few).1);
             };
@@ -44,7 +40,7 @@ returns c =
             subst
             (λ (v : List ℕ). Grown plan k.result.epoch (stage a.words.now (a.p + 1) 0) (stage k.new.words (a.p + 1) k.result.len)
             (pooled_ids plan (from v) a.wide.now a.node a.start a.seeds.now) (from v))
-            c.vector.ensures k.ensures.grown;
+            c.vector.ensures.is k.ensures.grown;
       };
       epoch_value = k.ensures.epoch_value;
     }

@@ -4,6 +4,6 @@ use native.Mathlib.Nat.{add-sub_cancel_left}
 use Rattle.definition.specs.Metric.{vector}
 use Rattle.given.proofs.Ground.vector.Goals as goal
 
-pub returns : goal.returns
+pub returns-clause-is : goal.returns-clause-is
 unfolding vector
-returns c = rw add-sub_cancel_left refl
+returns-clause-is c = rw add-sub_cancel_left refl
