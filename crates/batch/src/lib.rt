@@ -14,7 +14,6 @@ use given::Ground;
 // before left them, and the epochs go on: it returns the last. The stamps of the pools begin at 0: a stamp is a node's place in this batch.
 pub fn run_batch(
     g: Ground,
-    vectors: &[u8],
     epoch: u32,
     start: u32,
     nodes: &[u32],
@@ -23,8 +22,8 @@ pub fn run_batch(
     words: &mut [u32],
     floats: &mut [f32],
 ) -> u32
-    requires { BatchReady (given g vectors.now) (listing start nodes.now seeds.now) epoch (held wide.old words.old floats.old) }
-    ensures { BatchRun (given g vectors.now) (listing start nodes.now seeds.now) epoch result
+    requires { BatchReady (given g) (listing start nodes.now seeds.now) epoch (held wide.old words.old floats.old) }
+    ensures { BatchRun (given g.entry) (listing start nodes.now seeds.now) epoch result
         (held wide.old words.old floats.old)
         (held wide.new words.new floats.new) }
 {
@@ -32,8 +31,8 @@ pub fn run_batch(
     let a = scratch::stamps_at(n);
     let e = scratch::pool_dists_at(n);
     scratch::clear_words(&mut words[a..e]);
-    let last = batch_fresh::fresh_rows(g, vectors, epoch, start, nodes, seeds, wide, words, floats);
-    batch_merge::merge(g, vectors, nodes, wide, words, floats);
+    let last = batch_fresh::fresh_rows(g, epoch, start, nodes, seeds, wide, words, floats);
+    batch_merge::merge(g, nodes, wide, words, floats);
     last
 }
 
@@ -85,9 +84,10 @@ pub fn batch(
         dim,
         slack,
         params,
+        vectors,
     };
     let epoch = marks::first_epoch(words, n);
-    run_batch(g, vectors, epoch, start, nodes, seeds, wide, words, floats);
+    run_batch(g, epoch, start, nodes, seeds, wide, words, floats);
     scratch::clear_room(n, words, floats);
     answers::done()
 }

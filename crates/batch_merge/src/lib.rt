@@ -39,16 +39,15 @@ fn is_affected(words: &[u32], n: usize, nodes: &[u32], i: usize) -> bool
 // The row of one affected node: its merged ids, pruned if they are more than the slack.
 fn merge_row(
     g: Ground,
-    vectors: &[u8],
     nodes: &[u32],
     i: usize,
     wide: &mut [u32],
     words: &[u32],
     factors: &mut [f32],
 )
-    requires row_ready { RowReady (given g vectors.now) (merging g.n nodes.now words.now) i wide.old }
+    requires row_ready { RowReady (given g) (merging g.n nodes.now words.now) i wide.old }
     requires most_factors_in_bounds { most_factors ≤ length factors.old }
-    ensures { RowMerged (given g vectors.now) (merging g.n nodes.now words.now)
+    ensures { RowMerged (given g.entry) (merging g.entry.n nodes.now words.now)
         i wide.old wide.new }
 {
     let node = table::word_of(i);
@@ -56,7 +55,6 @@ fn merge_row(
     let mut dists = [0u32; batch_affected::MERGED];
     prune_fit::fit_row(
         g,
-        vectors,
         node,
         g.slack,
         wide,
@@ -67,49 +65,28 @@ fn merge_row(
 }
 
 // Every row in turn: an affected one is written anew, the others keep their words.
-fn merge_rows(
-    g: Ground,
-    vectors: &[u8],
-    nodes: &[u32],
-    wide: &mut [u32],
-    words: &[u32],
-    factors: &mut [f32],
-)
+fn merge_rows(g: Ground, nodes: &[u32], wide: &mut [u32], words: &[u32], factors: &mut [f32])
     requires most_factors_in_bounds { most_factors ≤ length factors.old }
-    requires limits { Limits (given g vectors.now) }
+    requires limits { Limits (given g) }
     requires gatherable { Gatherable (merging g.n nodes.now words.now) }
-    requires wide { Wide (given g vectors.now) wide.old }
-    ensures { wide.new ≡ merged (setting (given g vectors.now)) wide.old
-        (listed_in (merging g.n nodes.now words.now)) }
+    requires wide { Wide (given g) wide.old }
+    ensures { wide.new ≡ merged (setting (given g.entry)) wide.old
+        (listed_in (merging g.entry.n nodes.now words.now)) }
 {
     for i in 0..g.n {
         if is_affected(words, g.n, nodes, i) {
-            merge_row(g, vectors, nodes, i, wide, words, factors);
+            merge_row(g, nodes, i, wide, words, factors);
         }
     }
 }
 
 // The merge: the fresh rows lie in `words`, and the wide table is as it was before the batch.
-pub fn merge(
-    g: Ground,
-    vectors: &[u8],
-    nodes: &[u32],
-    wide: &mut [u32],
-    words: &mut [u32],
-    floats: &mut [f32],
-)
-    requires { MergeReady (given g vectors.now) nodes.now (held wide.old words.old floats.old) }
-    ensures { Merged (given g vectors.now) nodes.now
+pub fn merge(g: Ground, nodes: &[u32], wide: &mut [u32], words: &mut [u32], floats: &mut [f32])
+    requires { MergeReady (given g) nodes.now (held wide.old words.old floats.old) }
+    ensures { Merged (given g.entry) nodes.now
         (held wide.old words.old floats.old)
         (held wide.new words.new floats.new) }
 {
     link(words, g.n, nodes);
-    merge_rows(
-        g,
-        vectors,
-        nodes,
-        wide,
-        words,
-        &mut floats[..scratch::FACTORS],
-    );
+    merge_rows(g, nodes, wide, words, &mut floats[..scratch::FACTORS]);
 }

@@ -66,8 +66,9 @@ pub fn close(
         dim,
         slack: width,
         params,
+        vectors,
     };
-    build_rows::close_rows(g, vectors, wide, closed, &mut floats[0..scratch::FACTORS]);
+    build_rows::close_rows(g, wide, closed, &mut floats[0..scratch::FACTORS]);
     scratch::clear_room(n, words, floats);
     answers::done()
 }
@@ -76,7 +77,6 @@ pub fn close(
 // returns the last.
 fn run_batches(
     g: Ground,
-    vectors: &[u8],
     start: u32,
     order: &[u32],
     seeds: &[u32],
@@ -84,8 +84,8 @@ fn run_batches(
     words: &mut [u32],
     floats: &mut [f32],
 ) -> u32
-    requires { RunsReady (given g vectors.now) (listing start order.now seeds.now) (held wide.old words.old floats.old) }
-    ensures { RunsDone (given g vectors.now) (listing start order.now seeds.now) result
+    requires { RunsReady (given g) (listing start order.now seeds.now) (held wide.old words.old floats.old) }
+    ensures { RunsDone (given g.entry) (listing start order.now seeds.now) result
         (held wide.old words.old floats.old)
         (held wide.new words.new floats.new) }
 {
@@ -93,7 +93,7 @@ fn run_batches(
     let mut left = seeds;
     for run in order.chunks(256) {
         let (groups, rest) = left.split_at(run.len() * g.params.extra);
-        epoch = batch::run_batch(g, vectors, epoch, start, run, groups, wide, words, floats);
+        epoch = batch::run_batch(g, epoch, start, run, groups, wide, words, floats);
         left = rest;
     }
     epoch
@@ -154,9 +154,10 @@ pub fn build(
         dim,
         slack,
         params,
+        vectors,
     };
-    run_batches(g, vectors, start, order, seeds, wide, words, floats);
-    build_rows::close_rows(g, vectors, wide, closed, &mut floats[0..scratch::FACTORS]);
+    run_batches(g, start, order, seeds, wide, words, floats);
+    build_rows::close_rows(g, wide, closed, &mut floats[0..scratch::FACTORS]);
     scratch::clear_room(n, words, floats);
     answers::done()
 }

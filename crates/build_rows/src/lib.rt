@@ -22,16 +22,9 @@ pub fn open_rows(n: usize, degree: usize, slack: usize, opening: &[u32], wide: &
 }
 
 // The row of one node in the closed table. Pruning sorts by distance, then id, so that ids in rising order give no other row.
-fn close_row(
-    g: Ground,
-    vectors: &[u8],
-    i: usize,
-    wide: &[u32],
-    closed: &mut [u32],
-    factors: &mut [f32],
-)
-    requires { RowCloses (given g vectors.now) i wide.now (length closed.old) (length factors.old) }
-    ensures { RowClosed (given g vectors.now) i wide.now closed.old closed.new }
+fn close_row(g: Ground, i: usize, wide: &[u32], closed: &mut [u32], factors: &mut [f32])
+    requires { RowCloses (given g) i wide.now (length closed.old) (length factors.old) }
+    ensures { RowClosed (given g.entry) i wide.now closed.old closed.new }
 {
     let mut ids = [0u32; scratch::WIDEST];
     let mut dists = [0u32; scratch::WIDEST];
@@ -42,7 +35,6 @@ fn close_row(
     let count = table::copy_ids(&wide[a..e], &mut ids);
     prune_fit::fit_row(
         g,
-        vectors,
         node,
         g.params.degree,
         closed,
@@ -53,11 +45,11 @@ fn close_row(
 }
 
 // Every row of the wide table into its stretch of the closed one: pruned if it is longer than the degree, otherwise as it is.
-pub fn close_rows(g: Ground, vectors: &[u8], wide: &[u32], closed: &mut [u32], factors: &mut [f32])
-    requires { CloseReady (given g vectors.now) wide.now (length closed.old) (length factors.old) }
-    ensures { closed.new ≡ close (setting (given g vectors.now)) wide.now }
+pub fn close_rows(g: Ground, wide: &[u32], closed: &mut [u32], factors: &mut [f32])
+    requires { CloseReady (given g) wide.now (length closed.old) (length factors.old) }
+    ensures { closed.new ≡ close (setting (given g.entry)) wide.now }
 {
     for i in 0..g.n {
-        close_row(g, vectors, i, wide, closed, factors);
+        close_row(g, i, wide, closed, factors);
     }
 }

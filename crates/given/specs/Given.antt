@@ -19,8 +19,8 @@ pub record Given : Type 0 where
   pub width : ℕ
 
 -- as the code has them
-abbrev pub given : Ground → List ℕ → Given
-given g vectors = record { n = g.n; dim = g.dim; vectors = vectors; params = g.params; width = g.slack }
+abbrev pub given : Ground → Given
+given g = record { n = g.n; dim = g.dim; vectors = g.vectors.now; params = g.params; width = g.slack }
 
 abbrev pub setting : Given → Setting
 setting g = setting_of g.n g.dim g.vectors g.params

@@ -11,21 +11,18 @@ ghost use Rattle.prune_fit.specs.Fits.{Fittable, Fitted};
 use given::Ground;
 
 // The distance of each id from the node, whose vector is lent once for all.
-fn measure(vectors: &[u8], dim: usize, node: usize, ids: &[u32], dists: &mut [u32])
-    requires dim_bound { (dim ≤ 256) × (length ids.now ≡ length dists.old) }
-    requires vector_in { VectorIn dim vectors.now node }
-    requires by_index { (k : ℕ) → k < length ids.now → VectorIn dim vectors.now (get_or ids.now k 0) }
-    ensures { Distances (between dim vectors.now node) ids.now dists.new }
+fn measure(g: Ground, node: usize, ids: &[u32], dists: &mut [u32])
+    requires dim_bound { (g.dim ≤ 256) × (length ids.now ≡ length dists.old) }
+    requires vector_in { VectorIn g.dim g.vectors.now node }
+    requires by_index { (k : ℕ) → k < length ids.now → VectorIn g.dim g.vectors.now (get_or ids.now k 0) }
+    ensures { Distances (between g.entry.dim g.entry.vectors.now node) ids.now dists.new }
 {
-    let at = node * dim;
-    let end = at + dim;
-    metric::from_query_each(dim, vectors, &vectors[at..end], ids, dists);
+    metric::from_query_each(g.dim, g.vectors, g.vector(node), ids, dists);
 }
 
 // The ids of a node become its row of a table of `width` words a row: as they are if there are at most so many, otherwise pruned.
 pub fn fit_row(
     g: Ground,
-    vectors: &[u8],
     node: u32,
     width: usize,
     table: &mut [u32],
@@ -33,9 +30,9 @@ pub fn fit_row(
     dists: &mut [u32],
     factors: &mut [f32],
 )
-    requires fittable { Fittable (given g vectors.now) node width ids.now }
+    requires fittable { Fittable (given g) node width ids.now }
     requires dists_len { (length dists.old ≡ length ids.now) × (most_factors ≤ length factors.old) × (node * width + width ≤ length table.old) }
-    ensures { Fitted (given g vectors.now) node width ids.now table.old table.new }
+    ensures { Fitted (given g.entry) node width ids.now table.old table.new }
 {
     let place = table::index_of(node);
     let m = ids.len();
@@ -43,12 +40,12 @@ pub fn fit_row(
         table::put_row(table, place, width, ids);
         return;
     }
-    measure(vectors, g.dim, place, ids, dists);
+    measure(g, place, ids, dists);
     prune::prune_into(
         table,
         place,
         width,
-        vectors,
+        g.vectors,
         g.dim,
         ids,
         dists,

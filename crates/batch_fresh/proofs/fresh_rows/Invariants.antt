@@ -10,5 +10,5 @@ use Rattle.batch_fresh.proofs.fresh_rows.Given as goal
 abbrev pub invariant-loop-p : goal.invariant-loop-p
 invariant-loop-p l =
     (l.last ≡ l.epoch + (l.p + l.p * l.g.params.extra))
-    × Between (given l.g l.vectors) l.last l.p l.words
-    × RowsMade (given l.g l.vectors) l.wide (listing l.start l.nodes l.seeds) (lent l.initial.words l.initial.floats) (lent l.words l.floats) l.p
+    × Between (given l.g) l.last l.p l.words
+    × RowsMade (given l.g) l.wide (listing l.start l.nodes l.seeds) (lent l.initial.words l.initial.floats) (lent l.words l.floats) l.p

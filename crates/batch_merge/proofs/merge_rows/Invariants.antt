@@ -6,4 +6,4 @@ use Rattle.batch_merge.proofs.merge_rows.Given as goal
 
 abbrev pub invariant-loop-i : goal.invariant-loop-i
 invariant-loop-i l =
-    Turned (given l.g l.vectors) (merging l.g.n l.nodes l.words) l.initial.wide l.wide l.i
+    Turned (given l.g) (merging l.g.n l.nodes l.words) l.initial.wide l.wide l.i

@@ -10,5 +10,5 @@ use Rattle.build.proofs.run_batches.Given as goal
 abbrev pub invariant-loop-run : goal.invariant-loop-run
 invariant-loop-run l =
     (l.run-iterator.size ≡ 256)
-    × Running (given l.g l.vectors) (listing l.start l.order l.seeds) (held l.initial.wide l.initial.words l.initial.floats) (held l.wide l.words l.floats) l.epoch
+    × Running (given l.g) (listing l.start l.order l.seeds) (held l.initial.wide l.initial.words l.initial.floats) (held l.wide l.words l.floats) l.epoch
     l.run-iterator.rest.now l.left

@@ -4,4 +4,4 @@ use Rattle.build_rows.proofs.Closing.{Closing}
 use Rattle.build_rows.proofs.close_rows.Given as goal
 
 abbrev pub invariant-loop-i : goal.invariant-loop-i
-invariant-loop-i l = Closing (given l.g l.vectors) l.wide l.initial.closed l.closed l.i
+invariant-loop-i l = Closing (given l.g) l.wide l.initial.closed l.closed l.i
