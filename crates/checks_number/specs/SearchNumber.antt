@@ -30,6 +30,10 @@ call_of asked words floats ids dists = record {
   dists = dists;
 }
 
+-- a lookup is the search of the call as cleaned
+abbrev lookup_of : Asked → List ℕ → List Float → List ℕ → List Float → SearchCall
+lookup_of asked words floats ids dists = cleaned_call (call_of asked words floats ids dists)
+
 -- check 10 by lengths
 short_is : (c : SearchCall) (words floats ids dists run : ℕ) → length c.words ≡ words → length c.floats ≡ floats → length c.ids ≡ ids
     → length c.dists ≡ dists → (search_short c || ltb run (most_answers c.beam c.k)) ≡ search_short_by c.n c.beam c.k words floats ids dists run
@@ -65,10 +69,10 @@ module _ (asked : Asked) (words floats ids dists : ℕ) where
     pub is : (ws : List ℕ) (fs : List Float) (is : List ℕ) (ds : List Float) → length ws ≡ words → length fs ≡ floats → length is ≡ ids → length ds ≡ dists
         → NumberedBeside (call_of asked ws fs is ds) run r
 
-  -- and of every lookup, which is the search of the call as cleaned, as if with k records
+  -- and of every such lookup, as if with k records
   pub record LookupNumbered (r : ℕ) : Type 0 where
     pub is : (ws : List ℕ) (fs : List Float) (is : List ℕ) (ds : List Float) → length ws ≡ words → length fs ≡ floats → length is ≡ ids → length ds ≡ dists
-        → NumberedBeside (cleaned_call (call_of asked ws fs is ds)) asked.k r
+        → NumberedBeside (lookup_of asked ws fs is ds) asked.k r
 
   -- the tests, of a table that may be another than the one that is lent
   abbrev pub search_tests : List ℕ → ℕ → Tests
@@ -88,7 +92,7 @@ module _ {asked : Asked} {words floats ids dists r : ℕ} where
       → LookupNumbered asked words floats ids dists r
   unfolding search_number_at number_of cleaned_call
   lookup_numbered e = record {
-    is = λ ws fs is ds p q r s. rw (short_is (cleaned_call (call_of asked ws fs is ds)) words floats ids dists asked.k p q r s) e;
+    is = λ ws fs is ds p q r s. rw (short_is (lookup_of asked ws fs is ds) words floats ids dists asked.k p q r s) e;
   }
 
 k_enough : (beam k : ℕ) → ltb k (most_answers beam k) ≡ false
