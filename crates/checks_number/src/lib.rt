@@ -4,10 +4,9 @@
 
 ghost use Rattle.std.specs.Prelude.{◌≡◌, ◌≤◌};
 ghost use Rattle.definition.specs.Numbers.{number_told};
-ghost use Rattle.definition.specs.Tables.{cleaned};
 ghost use Rattle.checks_number.specs.Tests.{number_of};
 ghost use Rattle.checks_number.specs.Shared.{entry_tests, param_tests};
-ghost use Rattle.checks_number.specs.SearchNumber.{limit_tests, length_tests, SearchNumbered};
+ghost use Rattle.checks_number.specs.SearchNumber.{limit_tests, length_tests, SearchNumbered, LookupNumbered};
 ghost use Rattle.checks_number.specs.FitNumber.{FitNumbered};
 ghost use Rattle.checks_number.specs.BuildNumbers.{BatchNumbered, OpenNumbered, CloseNumbered, BuildNumbered};
 ghost use Rattle.checks_number.specs.MedoidNumber.{MedoidNumbered};
@@ -20,6 +19,21 @@ use checks::rooms::{build_short, search_short};
 use checks::sets::{bad_nodes, bad_order, bad_pivots, bad_seeds};
 use checks::tables::{bad_searched, bad_table, bad_wide};
 use definition::{Params, Refusal};
+
+// What a search asks: the k nearest to a query of n entries of dim samples, one after another in `vectors`, by a walk that begins at `start`, on a table of rows
+// of `degree` words.
+#[derive(Clone, Copy)]
+pub struct Asked<'a> {
+    pub n: usize,
+    pub dim: usize,
+    pub vectors: &'a [u8],
+    pub degree: usize,
+    pub beam: usize,
+    pub k: usize,
+    pub start: u32,
+    pub table: &'a [u32],
+    pub query: &'a [u8],
+}
 
 // 1 and 2, which most calls begin with.
 pub fn check_entries(n: usize, dim: usize, vectors: &[u8]) -> Result<(), Refusal>
@@ -86,24 +100,20 @@ pub fn check_limits(
 
 // 10 and 11, which they end with.
 fn check_lengths(
-    n: usize,
-    dim: usize,
-    beam: usize,
-    k: usize,
-    query: &[u8],
+    asked: Asked,
     words: usize,
     floats: usize,
     ids: usize,
     dists: usize,
     run: usize,
 ) -> Result<(), Refusal>
-    requires { n ≤ 65536 }
-    ensures { number_told result ≡ number_of (length_tests n dim beam k query.now words floats ids dists run) }
+    requires { asked.n ≤ 65536 }
+    ensures { number_told result ≡ number_of (length_tests asked.entry words floats ids dists run) }
 {
-    if search_short(n, beam, k, words, floats, ids, dists, run) {
+    if search_short(asked.n, asked.beam, asked.k, words, floats, ids, dists, run) {
         return Err(Refusal::Room);
     }
-    if query.len() != dim {
+    if asked.query.len() != asked.dim {
         return Err(Refusal::Query);
     }
     Ok(())
@@ -111,54 +121,51 @@ fn check_lengths(
 
 // Of a search, with `run` records beside its two outputs; a search without them gives k.
 pub fn check_search(
-    n: usize,
-    dim: usize,
-    vectors: &[u8],
-    degree: usize,
-    beam: usize,
-    k: usize,
-    start: u32,
-    table: &[u32],
-    query: &[u8],
+    asked: Asked,
     words: usize,
     floats: usize,
     ids: usize,
     dists: usize,
     run: usize,
 ) -> Result<(), Refusal>
-    ensures { SearchNumbered n dim vectors.now degree beam k start table.now query.now words floats ids dists run (number_told result) }
+    ensures { SearchNumbered asked.entry words floats ids dists run (number_told result) }
 {
-    check_limits(n, dim, vectors, degree, beam, start)?;
-    if bad_searched(n, degree, table) {
+    check_limits(
+        asked.n,
+        asked.dim,
+        asked.vectors,
+        asked.degree,
+        asked.beam,
+        asked.start,
+    )?;
+    if bad_searched(asked.n, asked.degree, asked.table) {
         return Err(Refusal::Table);
     }
-    check_lengths(n, dim, beam, k, query, words, floats, ids, dists, run)
+    check_lengths(asked, words, floats, ids, dists, run)
 }
 
 // Of a lookup: of its table the length alone is looked at, and so it is the number of the search whose table is cleaned.
 pub fn check_lookup(
-    n: usize,
-    dim: usize,
-    vectors: &[u8],
-    degree: usize,
-    beam: usize,
-    k: usize,
-    start: u32,
-    table: &[u32],
-    query: &[u8],
+    asked: Asked,
     words: usize,
     floats: usize,
     ids: usize,
     dists: usize,
 ) -> Result<(), Refusal>
-    ensures { SearchNumbered n dim vectors.now degree beam k start (cleaned n table.now) query.now
-        words floats ids dists k (number_told result) }
+    ensures { LookupNumbered asked.entry words floats ids dists (number_told result) }
 {
-    check_limits(n, dim, vectors, degree, beam, start)?;
-    if bad_length(n, degree, table.len()) {
+    check_limits(
+        asked.n,
+        asked.dim,
+        asked.vectors,
+        asked.degree,
+        asked.beam,
+        asked.start,
+    )?;
+    if bad_length(asked.n, asked.degree, asked.table.len()) {
         return Err(Refusal::Table);
     }
-    check_lengths(n, dim, beam, k, query, words, floats, ids, dists, k)
+    check_lengths(asked, words, floats, ids, dists, asked.k)
 }
 
 // Of fit.

@@ -11,13 +11,14 @@ use Rattle.definition.specs.Outcome.{ReportOut, asked_each, hits_at}
 use Rattle.laws.specs.Parts.{Within}
 use Rattle.accepted.specs.Search.{SearchAccepted}
 use Rattle.accepted.specs.Recall.{ExhaustiveAccepted, ReportAccepted, search_of, exhaustive_of}
+use Rattle.checks_number.specs.declared.Asked.{Asked}
 use Rattle.scratch.specs.Layout.{visited_at}
 use Rattle.marks.specs.Marked.{Marks}
-use Rattle.recall.specs.declared.Asked.{Asked}
 use Rattle.recall.specs.declared.Brought.{Brought}
 use Rattle.recall.specs.declared.Tally.{Tally}
+use Rattle.recall.specs.declared.Terms.{Terms}
 
-abbrev pub call_of : Asked → List ℕ → List ℕ → List ℕ → List ℕ → List Float → ReportCall
+abbrev pub call_of : Terms → List ℕ → List ℕ → List ℕ → List ℕ → List Float → ReportCall
 call_of a vectors table queries words floats =
     record {
       n = a.n;
@@ -54,6 +55,22 @@ abbrev pub out_of : Report → List ℕ → List Float → ReportOut
 out_of r words floats = record { report = r; words = words; floats = floats }
 
 -- ---- one query, as the report of it alone: its two searches, and how many of the nearest the first brings
+abbrev pub query_call : Asked → List ℕ → ReportCall
+query_call asked words =
+    record {
+      n = asked.n;
+      dim = asked.dim;
+      vectors = asked.vectors.now;
+      degree = asked.degree;
+      beam = asked.beam;
+      k = asked.k;
+      start = asked.start;
+      table = asked.table.now;
+      queries = asked.query.now;
+      words = words;
+      floats = [];
+    }
+
 abbrev pub search_by : ReportCall → List ℕ → List Float → SearchCall
 search_by c ids dists = search_of c c.queries c.words [] ids dists
 

@@ -9,13 +9,14 @@ ghost use Rattle.theory.specs.build.Walks.{epoch_end};
 ghost use Rattle.accepted.specs.Recall.{ReportAccepted};
 ghost use Rattle.marks.specs.Marked.{Marks};
 ghost use Rattle.recall.specs.Marks.{Places, Unmarked, MarksOf, Counted, CountedBoth};
-ghost use Rattle.recall.specs.Asking.{call_of, out_of, QueryAccepted, QueriesAccepted, Recalled, Tallied};
+ghost use Rattle.recall.specs.Asking.{call_of, query_call, out_of, QueryAccepted, QueriesAccepted, Recalled, Tallied};
 
+use checks_number::Asked;
 use definition::Report;
 
 // What a report asks of each query: the k nearest of n entries of dim bytes, by a search that begins at `start`, on a table of rows of `degree` words.
 #[derive(Clone, Copy)]
-struct Asked {
+struct Terms {
     n: usize,
     dim: usize,
     degree: usize,
@@ -75,10 +76,7 @@ fn in_both(words: &mut [u32], ids: &[u32], nearest: &[u32], epoch: u32) -> usize
 // One query: how many of its nearest the search brings. The marks must be at most `epoch`, and are left so for the epoch that the query comes to, so that
 // one query may follow another. `ids` and `dists` are room for the search's answers, `near` and `apart` for the nearest.
 fn one_query(
-    a: Asked,
-    vectors: &[u8],
-    table: &[u32],
-    query: &[u8],
+    asked: Asked,
     epoch: u32,
     words: &mut [u32],
     ids: &mut [u32],
@@ -86,17 +84,21 @@ fn one_query(
     near: &mut [u32],
     apart: &mut [f32],
 ) -> Brought
-    requires query_accepted { QueryAccepted (call_of a vectors.now table.now query.now words.old []) ids.old dists.old near.old apart.old }
-    requires epoch_bound { (epoch + 2 < epoch_end) × Marks a.n words.old epoch }
-    ensures { Recalled
-        (call_of a vectors.now table.now query.now words.old [])
-        epoch words.new result }
+    requires query_accepted { QueryAccepted (query_call asked words.old) ids.old dists.old near.old apart.old }
+    requires epoch_bound { (epoch + 2 < epoch_end) × Marks asked.n words.old epoch }
+    ensures { Recalled (query_call asked.entry words.old) epoch words.new result }
 {
-    let n = a.n;
-    let found = search::walk_answers(
-        n, a.dim, vectors, a.degree, a.beam, a.k, a.start, table, query, epoch, words, ids, dists,
+    let n = asked.n;
+    let found = search::walk_answers(asked, epoch, words, ids, dists);
+    let nearest = exhaustive::exhaustive_accepted(
+        n,
+        asked.dim,
+        asked.vectors,
+        asked.k,
+        asked.query,
+        near,
+        apart,
     );
-    let nearest = exhaustive::exhaustive_accepted(n, a.dim, vectors, a.k, query, near, apart);
     let next = marks::next_epoch(found.epoch);
     let hits = in_both(
         &mut words[..n],
@@ -110,7 +112,7 @@ fn one_query(
 // All queries, one after another: what the searches bring of the nearest, and for how many queries that is all of `each`. The marks are cleared once, since
 // what is lent may hold anything; then each query goes on from the epoch that the one before it came to.
 fn all_queries(
-    a: Asked,
+    a: Terms,
     vectors: &[u8],
     table: &[u32],
     queries: &[u8],
@@ -131,8 +133,19 @@ fn all_queries(
     let mut found = 0;
     let mut whole = 0;
     for query in queries.chunks_exact(a.dim) {
+        let asked = Asked {
+            n: a.n,
+            dim: a.dim,
+            vectors,
+            degree: a.degree,
+            beam: a.beam,
+            k: a.k,
+            start: a.start,
+            table,
+            query,
+        };
         let brought = one_query(
-            a, vectors, table, query, epoch, words, &mut ids, &mut dists, &mut near, &mut apart,
+            asked, epoch, words, &mut ids, &mut dists, &mut near, &mut apart,
         );
         let hits = brought.hits;
         epoch = brought.epoch;
@@ -144,7 +157,7 @@ fn all_queries(
 
 // A report that no check refuses: with no queries all its figures are 0. Its room is cleared once, at the end.
 fn report_accepted(
-    a: Asked,
+    a: Terms,
     vectors: &[u8],
     table: &[u32],
     queries: &[u8],
@@ -210,7 +223,7 @@ pub fn report(
     ) {
         return answers::refused_report(refusal);
     }
-    let a = Asked {
+    let a = Terms {
         n,
         dim,
         degree,

@@ -1,5 +1,5 @@
 -- What a search that is accepted leaves, and the public statement from its number; a lookup as a search.
-use Rattle.std.specs.Prelude.{◌≡◌, refl, List, ℕ, ◌≤◌, Float, length}
+use Rattle.std.specs.Prelude.{◌≡◌, List, ℕ, ◌≤◌, Float}
 use Rattle.std.proofs.Math.Path.{sym, ap}
 use Rattle.std.proofs.Common.{◌∙◌, subst}
 use Rattle.definition.specs.declared.Answer.{Answer}
@@ -7,7 +7,7 @@ use Rattle.definition.specs.Refusals.{SearchCall, most_answers, search_number}
 use Rattle.definition.specs.Outcome.{search_answer, refused, search_kept, search_done, search_out, SearchMeets, SearchOut, cleaned_call, lookup_out, LookupMeets}
 use Rattle.accepted.specs.Outcomes.{by_refusal, by_success}
 use Rattle.accepted.specs.Search.{SearchAccepted as Accepted, accepted-at, cleaned-call}
-use Rattle.checks_number.specs.SearchNumber.{SearchNumbered, plain}
+use Rattle.checks_number.specs.SearchNumber.{NumberedBeside, plain}
 use Rattle.search.specs.declared.Found.{Found}
 
 abbrev pub out_of : Answer → List ℕ → List Float → List ℕ → List Float → SearchOut
@@ -26,15 +26,9 @@ pub searched-same : {c : SearchCall} {a r : Answer} {words : List ℕ} {floats :
     → r ≡ a → Searched c (out_of a words floats ids dists) → Searched c (out_of r words floats ids dists)
 searched-same {c} {words = words} {floats} {ids} {dists} e s = subst (λ (b : Answer). Searched c (out_of b words floats ids dists)) (sym e) s
 
--- r is the number of the search c with a run of `run` records beside its two outputs
-abbrev pub NumberedBeside : SearchCall → ℕ → ℕ → Type 0
-NumberedBeside c run r =
-    SearchNumbered c.n c.dim c.vectors c.degree c.beam c.k c.start c.table c.query
-    (length c.words) (length c.floats) (length c.ids) (length c.dists) run r
-
 -- number 0: it may be made, and its answers fit in the run
 pub beside-accepted : (c : SearchCall) (run r : ℕ) → NumberedBeside c run r → r ≡ 0 → Accepted c × (most_answers c.beam c.k ≤ run)
-beside-accepted c run r m z = accepted-at c run (sym (m.is c.words c.floats c.ids c.dists refl refl refl refl) ∙ z)
+beside-accepted c run r m z = accepted-at c run (sym m ∙ z)
 
 meets : (c : SearchCall) (o : SearchOut) → o ≡ search_out c → SearchMeets c o
 meets c o q =
@@ -64,8 +58,7 @@ module _ (c : SearchCall) (a : Accepted c) where
 -- ---- the public statement: without records it is as if there were k of them
 module _ (c : SearchCall) (r : ℕ) (m : NumberedBeside c c.k r) where
   number_is : r ≡ search_number c
-  number_is =
-      plain c.n c.dim c.vectors c.degree c.beam c.k c.start c.table c.query c.words c.floats c.ids c.dists r m
+  number_is = plain c r m
 
   pub search_refused : (r ≡ 0 → ⊥) → (a : Answer) → a ≡ refused r → SearchMeets c (out_of a c.words c.floats c.ids c.dists)
   unfolding search_out search_kept

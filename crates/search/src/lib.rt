@@ -14,6 +14,7 @@ ghost use Rattle.listing.specs.Listed.{pairs};
 ghost use Rattle.search.specs.Answering.{Wiped, Walkable, Answered};
 ghost use Rattle.search.specs.Statement.{out_of, answer_of, Searched};
 
+use checks_number::Asked;
 use definition::Answer;
 use greedy::Plan;
 
@@ -29,38 +30,38 @@ pub struct Found {
 // One walk and its answers, for a caller who holds the proof that it may be made: no check, and nothing is cleared. The marks must be at most `epoch`, and are
 // left so for the epoch that the walk comes to: so one walk may follow another. The walk reads a word that is no entry as padding.
 pub fn walk_answers(
-    n: usize,
-    dim: usize,
-    vectors: &[u8],
-    degree: usize,
-    beam: usize,
-    k: usize,
-    start: u32,
-    table: &[u32],
-    query: &[u8],
+    asked: Asked,
     epoch: u32,
     words: &mut [u32],
     ids: &mut [u32],
     dists: &mut [f32],
 ) -> Found
-    requires walkable { Walkable (cleaned_call (call_of n dim vectors.now degree beam k start table.now query.now words.old [] ids.old dists.old)) }
-    requires epoch_bound { (epoch + 1 < epoch_end) × Marks n words.old epoch }
+    requires walkable { Walkable (cleaned_call (call_of asked words.old [] ids.old dists.old)) }
+    requires epoch_bound { (epoch + 1 < epoch_end) × Marks asked.n words.old epoch }
     ensures { Answered
-        (cleaned_call (call_of n dim vectors.now degree beam k start table.now query.now
-        words.old [] ids.old dists.old))
+        (cleaned_call (call_of asked.entry words.old [] ids.old dists.old))
         epoch words.new (pairs ids.new dists.new) result }
 {
     let mut keys = [beam::NONE; 256];
-    let most = beam.max(1);
+    let most = asked.beam.max(1);
     let p = Plan {
-        n,
-        dim,
-        width: degree,
+        n: asked.n,
+        dim: asked.dim,
+        width: asked.degree,
         beam: most,
         keep: false,
     };
-    let walked = greedy::greedy(words, &mut keys, vectors, query, table, p, epoch, start);
-    let count = k.min(walked.work);
+    let walked = greedy::greedy(
+        words,
+        &mut keys,
+        asked.vectors,
+        asked.query,
+        asked.table,
+        p,
+        epoch,
+        asked.start,
+    );
+    let count = asked.k.min(walked.work);
     listing::list_answers(&keys, walked.work, count, ids, dists);
     Found {
         epoch: walked.epoch,
@@ -82,60 +83,37 @@ fn wipe(words: &mut [u32], floats: &mut [f32], n: usize)
 // A lookup that no check refuses, for a caller who holds the proof of it: no check is made, and no pass over the table. The marks are cleared before the walk,
 // since what is lent may hold anything, and the room after it.
 pub fn lookup_accepted(
-    n: usize,
-    dim: usize,
-    vectors: &[u8],
-    degree: usize,
-    beam: usize,
-    k: usize,
-    start: u32,
-    table: &[u32],
-    query: &[u8],
+    asked: Asked,
     words: &mut [u32],
     floats: &mut [f32],
     ids: &mut [u32],
     dists: &mut [f32],
 ) -> Found
-    requires { Accepted (cleaned_call
-        (call_of n dim vectors.now degree beam k start table.now query.now words.old floats.old ids.old dists.old)) }
+    requires { Accepted (cleaned_call (call_of asked words.old floats.old ids.old dists.old)) }
     ensures { Searched
-        (cleaned_call (call_of n dim vectors.now degree beam k start table.now query.now
-        words.old floats.old ids.old dists.old))
+        (cleaned_call (call_of asked.entry words.old floats.old ids.old dists.old))
         (out_of (answer_of result) words.new floats.new ids.new dists.new) }
 {
-    let epoch = marks::first_epoch(words, n);
-    let found = walk_answers(
-        n, dim, vectors, degree, beam, k, start, table, query, epoch, words, ids, dists,
-    );
-    wipe(words, floats, n);
+    let epoch = marks::first_epoch(words, asked.n);
+    let found = walk_answers(asked, epoch, words, ids, dists);
+    wipe(words, floats, asked.n);
     found
 }
 
 // A search that no check refuses: its table keeps the search rule, so that it is the lookup.
 pub fn search_accepted(
-    n: usize,
-    dim: usize,
-    vectors: &[u8],
-    degree: usize,
-    beam: usize,
-    k: usize,
-    start: u32,
-    table: &[u32],
-    query: &[u8],
+    asked: Asked,
     words: &mut [u32],
     floats: &mut [f32],
     ids: &mut [u32],
     dists: &mut [f32],
 ) -> Answer
-    requires { Accepted (call_of n dim vectors.now degree beam k start table.now query.now words.old floats.old ids.old dists.old) }
+    requires { Accepted (call_of asked words.old floats.old ids.old dists.old) }
     ensures { Searched
-        (call_of n dim vectors.now degree beam k start table.now query.now
-        words.old floats.old ids.old dists.old)
+        (call_of asked.entry words.old floats.old ids.old dists.old)
         (out_of result words.new floats.new ids.new dists.new) }
 {
-    let found = lookup_accepted(
-        n, dim, vectors, degree, beam, k, start, table, query, words, floats, ids, dists,
-    );
+    let found = lookup_accepted(asked, words, floats, ids, dists);
     answers::searched(found.count, found.expanded, found.measured)
 }
 
@@ -174,7 +152,7 @@ pub fn search(
         })
         (record { answer = result; words = words.new; floats = floats.new; ids = ids.new; dists = dists.new }) }
 {
-    if let Err(refusal) = checks_number::check_search(
+    let asked = Asked {
         n,
         dim,
         vectors,
@@ -184,6 +162,9 @@ pub fn search(
         start,
         table,
         query,
+    };
+    if let Err(refusal) = checks_number::check_search(
+        asked,
         words.len(),
         floats.len(),
         ids.len(),
@@ -192,9 +173,7 @@ pub fn search(
     ) {
         return answers::refused(refusal);
     }
-    search_accepted(
-        n, dim, vectors, degree, beam, k, start, table, query, words, floats, ids, dists,
-    )
+    search_accepted(asked, words, floats, ids, dists)
 }
 
 // A search that reads each word of its table that is no entry as padding: safe on every table, and on one that keeps the search rule the same as `search`. It
@@ -232,7 +211,7 @@ pub fn lookup(
         })
         (record { answer = result; words = words.new; floats = floats.new; ids = ids.new; dists = dists.new }) }
 {
-    if let Err(refusal) = checks_number::check_lookup(
+    let asked = Asked {
         n,
         dim,
         vectors,
@@ -242,6 +221,9 @@ pub fn lookup(
         start,
         table,
         query,
+    };
+    if let Err(refusal) = checks_number::check_lookup(
+        asked,
         words.len(),
         floats.len(),
         ids.len(),
@@ -249,9 +231,7 @@ pub fn lookup(
     ) {
         return answers::refused(refusal);
     }
-    let found = lookup_accepted(
-        n, dim, vectors, degree, beam, k, start, table, query, words, floats, ids, dists,
-    );
+    let found = lookup_accepted(asked, words, floats, ids, dists);
     answers::searched(found.count, found.expanded, found.measured)
 }
 

@@ -12,10 +12,10 @@ use Rattle.definition.specs.declared.Answer.{Answer}
 use Rattle.definition.specs.Refusals.{SearchCall, records_number}
 use Rattle.definition.specs.Outcome.{search_answer, refused, found, found_ids, found_dists, found_records, search_done, SearchOut, RecordsOut, records_kept, records_done, records_out, RecordsMeets}
 use Rattle.accepted.specs.Outcomes.{by_refusal, by_success}
-use Rattle.checks_number.specs.SearchNumber.{with_records}
+use Rattle.checks_number.specs.SearchNumber.{NumberedBeside, with_records}
 use Rattle.laws.specs.Mapped.{map_at}
 use Rattle.search.specs.Reading.{front_at}
-use Rattle.search.specs.Statement.{out_of, Searched, NumberedBeside, beside-accepted}
+use Rattle.search.specs.Statement.{out_of, Searched, beside-accepted}
 use Rattle.search_records.specs.Copied.{candidate, copied, copied_is}
 
 -- ---- the copy of answers that stand in front of two lists
@@ -51,8 +51,7 @@ module _ (c : SearchCall) (rs : List Candidate) where
 
   module _ (r : ℕ) (m : NumberedBeside c (length rs) r) where
     number_is : r ≡ records_number c rs
-    number_is =
-        with_records c.n c.dim c.vectors c.degree c.beam c.k c.start c.table c.query c.words c.floats c.ids c.dists r rs m
+    number_is = with_records c r rs m
 
     -- a refusal: everything is as it was
     pub records_refused : (r ≡ 0 → ⊥) → (a : Answer) → a ≡ refused r → RecordsMeets c rs (record { plain = out_of a c.words c.floats c.ids c.dists; records = rs })

@@ -6,6 +6,7 @@ ghost use Rattle.std.specs.Prelude.{◌≡◌, ◌≤◌, length};
 ghost use Rattle.definition.specs.Outcome.{RecordsMeets};
 ghost use Rattle.search_records.specs.Copied.{copied};
 
+use checks_number::Asked;
 use definition::{Answer, Candidate};
 
 // The first `count` records become those of the two parallel slices; the others stay.
@@ -45,7 +46,7 @@ pub fn search_records(
         records.old
         (record { plain = record { answer = result; words = words.new; floats = floats.new; ids = ids.new; dists = dists.new }; records = records.new }) }
 {
-    if let Err(refusal) = checks_number::check_search(
+    let asked = Asked {
         n,
         dim,
         vectors,
@@ -55,6 +56,9 @@ pub fn search_records(
         start,
         table,
         query,
+    };
+    if let Err(refusal) = checks_number::check_search(
+        asked,
         words.len(),
         floats.len(),
         ids.len(),
@@ -63,9 +67,7 @@ pub fn search_records(
     ) {
         return answers::refused(refusal);
     }
-    let a = search::search_accepted(
-        n, dim, vectors, degree, beam, k, start, table, query, words, floats, ids, dists,
-    );
+    let a = search::search_accepted(asked, words, floats, ids, dists);
     let count = a.count;
     copy_run(records, ids, dists, count);
     a

@@ -11,7 +11,6 @@ use Rattle.definition.specs.Refusals.{SearchCall, search_number}
 use Rattle.definition.specs.Outcome.{SearchOut, SearchMeets, found, by_number}
 use Rattle.definition.specs.Seek.{the_n, the_dim, the_degree, the_vectors, the_rows, the_query, part_at, seek_call, print_refused, print_found}
 use Rattle.laws.specs.Parts.{part}
-use Rattle.checks_number.specs.SearchNumber.{call_of}
 use Rattle.search.specs.Reading.{number_is, count_is, ids_are, dists_are}
 use Rattle.seek_text.specs.Text.{PlacesOf, Ready}
 use Rattle.seek_print.specs.Printed.{Wholes, found_text}
@@ -74,7 +73,22 @@ module _ {vs vectors query words : List ℕ} {floats : List Float} {ids : List �
   module _ {n dim degree beam k rows at end : ℕ} (p : n ≡ the_n vs) (q : dim ≡ the_dim vs) (r : degree ≡ the_degree vs) (s : beam ≡ get_or vs 4 0)
       (t : k ≡ get_or vs 5 0) (places : PlacesOf vs rows at end) where
     abbrev made : SearchCall
-    made = call_of n dim (take (rows - 6) vectors) degree beam k (get_or vs 3 0) (part rows at vs) (take dim query) words floats ids dists
+    made =
+        record {
+          n = n;
+          dim = dim;
+          vectors = take (rows - 6) vectors;
+          degree = degree;
+          beam = beam;
+          k = k;
+          start = get_or vs 3 0;
+          table = part rows at vs;
+          query = take dim query;
+          words = words;
+          floats = floats;
+          ids = ids;
+          dists = dists;
+        }
 
     made_is : made ≡ call
     unfolding the_rows part_at

@@ -10,9 +10,9 @@ pub returns-then-search_short : goal.returns-then-search_short
 unfolding number_of ◌when◌else◌
 returns-then-search_short c = grind (arith, common_steps, nat_tests)
 
-pub returns-then-query-dim : goal.returns-then-query-dim
+pub returns-then-asked : goal.returns-then-asked
 unfolding number_of ◌when◌else◌
-returns-then-query-dim c = grind (arith, common_steps, nat_tests)
+returns-then-asked c = grind (arith, common_steps, nat_tests)
 
 pub returns : goal.returns
 unfolding number_of ◌when◌else◌

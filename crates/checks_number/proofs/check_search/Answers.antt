@@ -14,21 +14,21 @@ returns-in_err-check_limits c = let p = err_from_is_err_and c.from_residual.resu
 pub bad_searched-requires : goal.bad_searched-requires
 unfolding holds_at
 bad_searched-requires c =
-    let a = c.args in let clear = limits_clear a.n a.dim a.vectors.now a.degree a.beam a.start (sym c.in_ok-check_limits.ensures) in
+    let a = c.args.asked in let clear = limits_clear a.n a.dim a.vectors.now a.degree a.beam a.start (sym c.in_ok-check_limits.ensures) in
     ((vectors_good a.n a.dim a.vectors.now (clear 1)).1, (degree_good a.degree (clear 2)).few)
 
 pub check_lengths-requires : goal.check_lengths-requires
 unfolding holds_at
 check_lengths-requires c =
-    let a = c.args in let clear = limits_clear a.n a.dim a.vectors.now a.degree a.beam a.start (sym c.in_ok-check_limits.ensures) in
+    let a = c.args.asked in let clear = limits_clear a.n a.dim a.vectors.now a.degree a.beam a.start (sym c.in_ok-check_limits.ensures) in
     (vectors_good a.n a.dim a.vectors.now (clear 1)).1
 
 pub returns-then-bad_searched : goal.returns-then-bad_searched
-returns-then-bad_searched c = let a = c.args in
+returns-then-bad_searched c = let a = c.args.asked in
     search_numbered (limits_past a.n a.dim a.vectors.now a.degree a.beam a.start _ (sym c.in_ok-check_limits.ensures)
     (unfold number_of in unfold ◌when◌else◌ in grind (arith, common_steps)))
 
 pub returns : goal.returns
-returns c = let a = c.args in
+returns c = let a = c.args.asked in
     search_numbered (limits_past a.n a.dim a.vectors.now a.degree a.beam a.start _ (sym c.in_ok-check_limits.ensures)
     (unfold number_of in unfold ◌when◌else◌ in grind (arith, common_steps)))

@@ -9,11 +9,10 @@ use Rattle.search.proofs.lookup_accepted.Goals as goal
 use Rattle.search.proofs.lookup_accepted.Goals.{Start}
 
 -- the call, as cleaned
-abbrev asked : Start → SearchCall
-asked s =
+abbrev call : Start → SearchCall
+call s =
     let a = s.args in
-    cleaned_call (call_of a.n a.dim a.vectors.now a.degree a.beam a.k a.start a.table.now a.query.now
-    a.words.now a.floats.now a.ids.now a.dists.now)
+    cleaned_call (call_of a.asked a.words.now a.floats.now a.ids.now a.dists.now)
 
 pub first_epoch-epoch-requires : goal.first_epoch-epoch-requires
 unfolding cleaned_call
@@ -23,14 +22,14 @@ pub walk_answers-found-requires : goal.walk_answers-found-requires
 unfolding cleaned_call
 walk_answers-found-requires c =
     let s = (goal.at.walk_answers-found-requires c).Start in
-    let room = walk_room (asked s) s.requires _ _ c.first_epoch-epoch.ensures in
+    let room = walk_room (call s) s.requires _ _ c.first_epoch-epoch.ensures in
     record { walkable = room.0; epoch_bound = room.1 }
 
 pub wipe-requires : goal.wipe-requires
 unfolding cleaned_call
 wipe-requires c =
     let s = (goal.at.wipe-requires c).Start in
-    wipe_room (asked s) s.requires _ _ c.first_epoch-epoch.ensures _ _ _ c.walk_answers-found.ensures
+    wipe_room (call s) s.requires _ _ c.first_epoch-epoch.ensures _ _ _ c.walk_answers-found.ensures
 
 pub shape_of-words : goal.shape_of-words
 unfolding cleaned_call
@@ -41,4 +40,4 @@ pub returns : goal.returns
 unfolding cleaned_call
 returns c =
     let s = (goal.at.returns c).Start in
-    done (asked s) s.requires _ _ c.first_epoch-epoch.ensures _ _ _ c.walk_answers-found.ensures _ c.wipe.ensures
+    done (call s) s.requires _ _ c.first_epoch-epoch.ensures _ _ _ c.walk_answers-found.ensures _ c.wipe.ensures

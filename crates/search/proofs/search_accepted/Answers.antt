@@ -6,15 +6,14 @@ use Rattle.search.proofs.search_accepted.Goals as goal
 use Rattle.search.proofs.search_accepted.Goals.{Start}
 
 -- the call
-abbrev asked : Start → SearchCall
-asked s =
+abbrev call : Start → SearchCall
+call s =
     let a = s.args in
-    call_of a.n a.dim a.vectors.now a.degree a.beam a.k a.start a.table.now a.query.now
-    a.words.now a.floats.now a.ids.now a.dists.now
+    call_of a.asked a.words.now a.floats.now a.ids.now a.dists.now
 
 pub lookup_accepted-found-requires : goal.lookup_accepted-found-requires
-lookup_accepted-found-requires c = cleaned_accepted (asked (goal.at.lookup_accepted-found-requires c).Start) c.requires
+lookup_accepted-found-requires c = cleaned_accepted (call (goal.at.lookup_accepted-found-requires c).Start) c.requires
 
 pub returns : goal.returns
 returns c =
-    searched-same c.searched.ensures (cleaned-searched (asked (goal.at.returns c).Start) c.requires _ c.lookup_accepted-found.ensures)
+    searched-same c.searched.ensures (cleaned-searched (call (goal.at.returns c).Start) c.requires _ c.lookup_accepted-found.ensures)

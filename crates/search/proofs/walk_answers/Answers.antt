@@ -9,11 +9,10 @@ use Rattle.search.proofs.walk_answers.Goals as goal
 use Rattle.search.proofs.walk_answers.Goals.{Start}
 
 -- the call, as cleaned
-abbrev asked : Start → SearchCall
-asked s =
+abbrev call : Start → SearchCall
+call s =
     let a = s.args in
-    cleaned_call (call_of a.n a.dim a.vectors.now a.degree a.beam a.k a.start a.table.now a.query.now
-    a.words.now [] a.ids.now a.dists.now)
+    cleaned_call (call_of a.asked a.words.now [] a.ids.now a.dists.now)
 
 pub greedy-walked-requires : goal.greedy-walked-requires
 unfolding cleaned_call
@@ -22,9 +21,9 @@ greedy-walked-requires c =
     let walkable = s.requires.walkable in
     let marks = s.requires.epoch_bound in
     record {
-      epoch_bound = (marks.0, start_room (asked s) walkable s.args.table.now refl _ marks.1 _ c.max-most.ensures);
+      epoch_bound = (marks.0, start_room (call s) walkable s.args.asked.table.now refl _ marks.1 _ c.max-most.ensures);
       keys_value = refl;
-      ground = start_ground (asked s) walkable s.args.table.now refl _;
+      ground = start_ground (call s) walkable s.args.asked.table.now refl _;
       start_lt_n = walkable.start_in;
     }
 
@@ -32,7 +31,7 @@ pub list_answers-requires : goal.list_answers-requires
 unfolding cleaned_call
 list_answers-requires c =
     let s = (goal.at.list_answers-requires c).Start in
-    let room = list_room (asked s) s.requires.walkable s.args.table.now refl _ s.requires.epoch_bound.1 _ c.max-most.ensures
+    let room = list_room (call s) s.requires.walkable s.args.asked.table.now refl _ s.requires.epoch_bound.1 _ c.max-most.ensures
     _ _ _ c.greedy-walked.ensures _ c.min-count.ensures c.greedy-walked.auto.keys in
     record { rising = room.0; count_le_len = room.1 }
 
@@ -40,5 +39,5 @@ pub returns : goal.returns
 unfolding cleaned_call
 returns c =
     let s = (goal.at.returns c).Start in
-    answered (asked s) s.requires.walkable s.args.table.now refl _ s.requires.epoch_bound.1 _ c.max-most.ensures
+    answered (call s) s.requires.walkable s.args.asked.table.now refl _ s.requires.epoch_bound.1 _ c.max-most.ensures
     _ _ _ c.greedy-walked.ensures _ c.min-count.ensures _ c.list_answers.ensures

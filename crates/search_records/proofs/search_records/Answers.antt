@@ -1,30 +1,22 @@
 -- `search_records`. It is refused by its number, and everything is as it came; or it is accepted, and the answers that the search left are copied to the run.
 use Rattle.std.proofs.Common.{refl}
 use Rattle.laws.specs.Numbers.{number_nonzero}
-use Rattle.definition.specs.Refusals.{SearchCall}
-use Rattle.checks_number.specs.SearchNumber.{call_of}
 use Rattle.definition.specs.Outcome.{SearchOut}
 use Rattle.search.specs.Statement.{out_of, beside-accepted}
 use Rattle.search_records.specs.Statement.{in_all, records_refused, records_done_lem}
 use Rattle.search_records.proofs.search_records.Goals as goal
-use Rattle.search_records.proofs.search_records.Goals.{Start, After-search_accepted-a}
-
--- the search that is asked for
-abbrev asked : Start → SearchCall
-asked s =
-    let a = s.args in
-    call_of a.n a.dim a.vectors.now a.degree a.beam a.k a.start a.table.now a.query.now
-    a.words.now a.floats.now a.ids.now a.dists.now
+use Rattle.search_records.proofs.search_records.Goals.{After-search_accepted-a}
 
 pub returns-in-Err : goal.returns-in-Err
 returns-in-Err c =
-    let s = (goal.at.returns-in-Err c).Start in
-    records_refused (asked s) s.args.records.now _ c.in-Err.ensures (number_nonzero c.in-Err.refusal) _ c.refused.ensures
+    let a = c.args in
+    records_refused _ a.records.now _ (c.in-Err.ensures.is a.words.now a.floats.now a.ids.now a.dists.now refl refl refl refl)
+    (number_nonzero c.in-Err.refusal) _ c.refused.ensures
 
 pub search_accepted-a-requires : goal.search_accepted-a-requires
 search_accepted-a-requires c =
-    let s = (goal.at.search_accepted-a-requires c).Start in
-    (beside-accepted (asked s) _ _ c.in_default.ensures refl).0
+    let a = c.args in
+    (beside-accepted _ _ _ (c.in_default.ensures.is a.words.now a.floats.now a.ids.now a.dists.now refl refl refl refl) refl).0
 
 -- what the search left
 abbrev left : After-search_accepted-a → SearchOut
@@ -35,11 +27,13 @@ left c =
 pub copy_run-requires : goal.copy_run-requires
 copy_run-requires c =
     let p = goal.at.copy_run-requires c in
-    in_all (asked p.Start) p.Start.args.records.now _ c.in_default.ensures refl (left p.After-search_accepted-a)
-    c.search_accepted-a.ensures
+    let a = c.args in
+    in_all _ a.records.now _ (c.in_default.ensures.is a.words.now a.floats.now a.ids.now a.dists.now refl refl refl refl) refl
+    (left p.After-search_accepted-a) c.search_accepted-a.ensures
 
 pub returns : goal.returns
 returns c =
     let p = goal.at.returns c in
-    records_done_lem (asked p.Start) p.Start.args.records.now _ c.in_default.ensures refl (left p.After-search_accepted-a)
-    c.search_accepted-a.ensures _ c.copy_run.ensures
+    let a = c.args in
+    records_done_lem _ a.records.now _ (c.in_default.ensures.is a.words.now a.floats.now a.ids.now a.dists.now refl refl refl refl) refl
+    (left p.After-search_accepted-a) c.search_accepted-a.ensures _ c.copy_run.ensures
