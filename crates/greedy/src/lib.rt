@@ -14,8 +14,7 @@ ghost use Rattle.greedy.specs.Scratch.{Measures, Ground, from_start, walk_of, st
 
 use kept::Work;
 
-// What a walk goes by: n entries of dim bytes, and rows of width words; and whether it keeps a list of all that it visits. By hand: a const parameter for that, or a
-// closure, would make the walk twice in machine code, for one test in each step.
+// What a walk goes by: n entries of dim bytes, and rows of width words; and whether it keeps a list of all that it visits.
 #[derive(Clone, Copy)]
 pub struct Plan {
     pub n: usize,

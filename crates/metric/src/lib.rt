@@ -56,9 +56,8 @@ fn add_sixteen(sums: &mut [u32; 16], a: &[u8], b: &[u8], at: usize)
     }
 }
 
-// What the samples from `from` up to `to` add, sixteen at a time. No turn goes beyond `to` as it is; with `min` the compiler does not see how many turns
+// What the samples from `from` up to `to` add, sixteen at a time. No turn goes beyond `to` as it is; with `least` the compiler does not see how many turns
 // there are. Where it sees that, it takes samples sixteen places apart into one register, and fetches them one by one.
-// By hand: `step_by(16)` works out how many turns there are, which is just what the compiler may not see.
 fn sixteens(a: &[u8], b: &[u8], from: usize, to: usize) -> u32
     requires stretch { Stretch a.now b.now from to }
     requires from_value { (to - from) % 16 ≡ 0 }

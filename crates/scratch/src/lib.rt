@@ -22,8 +22,6 @@ pub const SEARCH_FLOATS: usize = 512;
 
 pub const REPORT_FLOATS: usize = 1024;
 
-// By hand: the places below differ in a factor and a constant, and each has its name in specs/Layout; with these as const parameters a caller would have to know them.
-
 // Words of a walk that keeps what it visits: marks from 0, the ids, their distances.
 pub fn visited_at(n: usize) -> usize
     requires { n ≤ 65536 }

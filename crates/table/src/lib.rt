@@ -6,7 +6,7 @@ ghost use Rattle.definition.specs.Slack.{slack};
 ghost use Rattle.definition.specs.Tables.{padded, only_pad};
 ghost use Rattle.table.specs.Rows.{Stretched, IdsCopied};
 
-// What no id is. By hand: the word stands in tables that C lends, as 01 says it.
+// What no id is.
 pub const PADDING: u32 = 0xFFFFFFFF;
 
 // The entry that a word names; a word as a number.
