@@ -28,8 +28,8 @@
  * Search rule: every word is padding or an id below n. Batch, open, close and build read tables under the build rule; search, records, report and fit under
  * the search rule; lookup under none.
  *
- * Stack that a call needs, in bytes, as bin/stack measures it: batch and build 27,100, open and close 16,900, report 7,900, records 4,000, lookup and search
- * 3,960, exhaustive 2,550, every other call 260.
+ * Stack that a call needs, in bytes, as bin/stack measures it: batch and build 27,200, open and close 16,950, report 8,200, records 4,070, lookup and search
+ * 4,020, exhaustive 2,500, every other call 260.
  * bin/stack fails where one needs more than 32 KiB, a lookup or a search 4 KiB, or a run of records 64 bytes more. No call uses the heap.
  */
 #ifndef FJALGROUT_H
