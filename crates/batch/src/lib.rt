@@ -76,7 +76,7 @@ pub fn batch(
         words.len(),
         floats.len(),
     ) {
-        return answers::refused(refusal);
+        return answers::refused_for(refusal);
     }
     let slack = table::slack(params.degree);
     let g = Ground {

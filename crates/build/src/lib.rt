@@ -17,7 +17,7 @@ pub fn open(n: usize, degree: usize, opening: &[u32], wide: &mut [u32]) -> Answe
         (record { answer = result; wide = wide.new }) }
 {
     if let Err(refusal) = checks_number::check_open(n, degree, opening, wide.len()) {
-        return answers::refused(refusal);
+        return answers::refused_for(refusal);
     }
     let slack = table::slack(degree);
     build_rows::open_rows(n, degree, slack, opening, wide);
@@ -58,7 +58,7 @@ pub fn close(
         words.len(),
         floats.len(),
     ) {
-        return answers::refused(refusal);
+        return answers::refused_for(refusal);
     }
     let width = table::slack(params.degree);
     let g = Ground {
@@ -145,7 +145,7 @@ pub fn build(
         words.len(),
         floats.len(),
     ) {
-        return answers::refused(refusal);
+        return answers::refused_for(refusal);
     }
     let slack = table::slack(params.degree);
     build_rows::open_rows(n, params.degree, slack, opening, wide);

@@ -16,10 +16,10 @@ pub record Shuffling (o : List ℕ) (s₀ : ℕ) (out : List ℕ) (i s : ℕ) : 
   pub inside : i < length o
   pub leads : shuffled i out s ≡ shuffled (length o - 1) o s₀
 
-exchange_turn : (o : List ℕ) (s₀ : ℕ) (out : List ℕ) (i s j s' : ℕ) → 0 < i → j ≡ drawn (i + 1) s' → s' ≡ advance s → Shuffling o s₀ out i s
+pub shuffle_turn : (o : List ℕ) (s₀ : ℕ) (out : List ℕ) (i s j s' : ℕ) → 0 < i → j ≡ drawn (i + 1) s' → s' ≡ advance s → Shuffling o s₀ out i s
     → Shuffling o s₀ (slice_set (slice_set out i (slice_index out j)) j (slice_index out i)) (i - 1) s'
 unfolding shuffled exchanged
-exchange_turn o s₀ out i s j s' h e e' k =
+shuffle_turn o s₀ out i s j s' h e e' k =
     let w = shuffled (length o - 1) o s₀ in
     let swapped : ℕ → ℕ → List ℕ = λ p d. set (slice_set out p (slice_index out d)) d (slice_index out p) in
     let q : i ≡ suc (i - 1) = omega arith in
@@ -36,11 +36,11 @@ exchange_turn o s₀ out i s j s' h e e' k =
     }
 
 -- as the code has it: the slice's own exchange
-pub shuffle_turn : (o : List ℕ) (s₀ : ℕ) (out : List ℕ) (i s j s' : ℕ) → 0 < i → j ≤ i → j ≡ drawn (i + 1) s' → s' ≡ advance s → Shuffling o s₀ out i s
+pub swap_turn : (o : List ℕ) (s₀ : ℕ) (out : List ℕ) (i s j s' : ℕ) → 0 < i → j ≤ i → j ≡ drawn (i + 1) s' → s' ≡ advance s → Shuffling o s₀ out i s
     → Shuffling o s₀ (swap out i j) (i - 1) s'
-shuffle_turn o s₀ out i s j s' h l e e' k =
+swap_turn o s₀ out i s j s' h l e e' k =
     let is = swap_is out i j 0 (omega (arith, k.size, k.inside)) (omega (arith, k.size, k.inside)) in
-    subst (λ (z : List ℕ). Shuffling o s₀ z (i - 1) s') is (exchange_turn o s₀ out i s j s' h e e' k)
+    subst (λ (z : List ℕ). Shuffling o s₀ z (i - 1) s') is (shuffle_turn o s₀ out i s j s' h e e' k)
 
 pub shuffle_end : (o : List ℕ) (s₀ : ℕ) (out : List ℕ) (i s : ℕ) → i ≤ 0 → Shuffling o s₀ out i s
     → record { words = out; state = s } ≡ shuffled (length o - 1) o s₀

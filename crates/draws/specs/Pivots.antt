@@ -7,7 +7,7 @@ use Rattle.definition.specs.Draws.{advance, drawn, draws_below, pivots_drawn}
 use Rattle.draws.specs.Says.{Leaves}
 use Rattle.definition.specs.Lists.{over}
 use Rattle.laws.specs.Writing.{put, all_ends}
-use Rattle.draws.specs.Filling.{Filling, fill_start}
+use Rattle.draws.specs.Filling.{Filling, fill_start, fill_ends}
 
 -- k draws in all, i of them written
 abbrev pub Drawing : ℕ → ℕ → ℕ → List ℕ → List ℕ → ℕ → ℕ → Type 0
@@ -25,10 +25,16 @@ module _ (n k s₀ : ℕ) (o : List ℕ) where
         let g = subst (λ (m : ℕ). Filling (draws_below n k s₀) o out i (draws_below n m s)) q f in
         record { words = put _ o out i _ _ l g.words; state_is = g.state_is }
 
-    -- the k words are the front of a list, and what is behind them stays
-    pub draws_end : (whole : List ℕ) → length out ≡ k → k ≤ i → Leaves (draws_below n k s₀) whole s (out ++ drop k whole)
+    pub draws_end : k ≤ i → i ≤ length out → Leaves (draws_below n k s₀) o s out
+    unfolding draws_below
+    draws_end h l =
+        let q : k - i ≡ 0 = omega arith in
+        fill_ends _ o out i s l (subst (λ (m : ℕ). Filling (draws_below n k s₀) o out i (draws_below n m s)) q f)
+
+    -- as the code has it: the k words are the front of a list, and what is behind them stays
+    pub draws_front : (whole : List ℕ) → length out ≡ k → k ≤ i → Leaves (draws_below n k s₀) whole s (out ++ drop k whole)
     unfolding draws_below over
-    draws_end whole size h =
+    draws_front whole size h =
         let q : k - i ≡ 0 = omega arith in
         let g = subst (λ (m : ℕ). Filling (draws_below n k s₀) o out i (draws_below n m s)) q f in
         record {

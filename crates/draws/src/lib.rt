@@ -29,7 +29,7 @@ pub struct Stepped {
 fn kept(state: u64, refusal: Refusal) -> Stepped
     ensures { result ≡ stepped state (refused (number refusal)) }
 {
-    let answer = answers::refused(refusal);
+    let answer = answers::refused_for(refusal);
     Stepped { state, answer }
 }
 

@@ -42,7 +42,7 @@ pub fn medoid(n: usize, dim: usize, vectors: &[u8], pivots: &[u32]) -> Answer
     ensures { result ≡ medoid_out (record { n = n; dim = dim; vectors = vectors.now; pivots = pivots.now }) }
 {
     if let Err(refusal) = checks_number::check_medoid(n, dim, vectors, pivots) {
-        return answers::refused(refusal);
+        return answers::refused_for(refusal);
     }
     let id = leader(n, dim, vectors, pivots);
     answers::chosen(id as u32)

@@ -23,7 +23,7 @@ pub record Sixteen (a b : List ℕ) (at d : ℕ) (sums : List ℕ) : Type 0 wher
   pub sixteen : length sums ≡ 16
   pub is : total sums + metric (drop at a) (drop at b) ≡ d
 
--- ---- sums: one that grows, none more than all
+-- ---- sums: one that grows, none more than all, those from a place on
 pub total_more : (sums : List ℕ) (j x : ℕ) → j < length sums → total (set sums j (get_or sums j 0 + x)) ≡ total sums + x
 unfolding total
 total_more [] j x h = absurd (omega arith)
@@ -35,6 +35,14 @@ unfolding total
 sum-total [] j = omega arith
 sum-total (s ∷ sums) zero = omega arith
 sum-total (s ∷ sums) (suc j) = let k = sum-total sums j in omega arith
+
+pub total_from : (sums : List ℕ) (j : ℕ) → j < length sums → get_or sums j 0 + total (drop (j + 1) sums) ≡ total (drop j sums)
+unfolding total
+total_from sums j h = rw (add-one j, drop-cons sums j 0 h)
+
+pub total_end : (sums : List ℕ) (j : ℕ) → length sums ≤ j → total (drop j sums) ≡ 0
+unfolding total
+total_end sums j h = rw (drop_of_length-le sums h)
 
 -- that total is the library's sum
 fold_total : (a : ℕ) (sums : List ℕ) → fold ◌+◌ a sums ≡ a + total sums

@@ -56,7 +56,7 @@ fn add_sixteen(sums: &mut [u32; 16], a: &[u8], b: &[u8], at: usize)
     }
 }
 
-// What the samples from `from` up to `to` add, sixteen at a time. No turn goes beyond `to` as it is; with `least` the compiler does not see how many turns
+// What the samples from `from` up to `to` add, sixteen at a time. No turn goes beyond `to` as it is; with `min` the compiler does not see how many turns
 // there are. Where it sees that, it takes samples sixteen places apart into one register, and fetches them one by one.
 fn sixteens(a: &[u8], b: &[u8], from: usize, to: usize) -> u32
     requires stretch { Stretch a.now b.now from to }
@@ -137,10 +137,10 @@ pub fn distance(a: &[u8], b: &[u8]) -> Answer
 {
     let dim = a.len();
     if dim == 0 || 256 < dim {
-        return answers::refused(Refusal::Dimension);
+        return answers::refused_for(Refusal::Dimension);
     }
     if dim != b.len() {
-        return answers::refused(Refusal::Query);
+        return answers::refused_for(Refusal::Query);
     }
     answers::measured(summed(a, b) as f32)
 }

@@ -178,7 +178,7 @@ fn report_accepted(
 }
 
 // How many of the true nearest the searches of all queries bring, in plain figures; or the number of the refusal, which is known from lengths and from what is
-// only read: nothing is lent for writing before it is 0.
+// only read: nothing is lent for writing before the checks are passed.
 pub fn report(
     n: usize,
     dim: usize,
@@ -221,7 +221,7 @@ pub fn report(
         words.len(),
         floats.len(),
     ) {
-        return answers::refused_report(refusal);
+        return answers::refused_report_for(refusal);
     }
     let a = Terms {
         n,

@@ -118,7 +118,7 @@ pub fn search_accepted(
 }
 
 // The answers of a search in `ids` and `dists`, best first, and how many they are; or the number of the refusal, which is known from lengths and from what is
-// only read: nothing is lent for writing before it is 0.
+// only read: nothing is lent for writing before the checks are passed.
 pub fn search(
     n: usize,
     dim: usize,
@@ -171,7 +171,7 @@ pub fn search(
         dists.len(),
         k,
     ) {
-        return answers::refused(refusal);
+        return answers::refused_for(refusal);
     }
     search_accepted(asked, words, floats, ids, dists)
 }
@@ -229,10 +229,10 @@ pub fn lookup(
         ids.len(),
         dists.len(),
     ) {
-        return answers::refused(refusal);
+        return answers::refused_for(refusal);
     }
-    let found = lookup_accepted(asked, words, floats, ids, dists);
-    answers::searched(found.count, found.expanded, found.measured)
+    let brought = lookup_accepted(asked, words, floats, ids, dists);
+    answers::searched(brought.count, brought.expanded, brought.measured)
 }
 
 // The number that a search would give for its table: a table that is searched many times is asked once, and `lookup` then answers as `search` does.

@@ -24,7 +24,7 @@ fn copy_run(records: &mut [Candidate], ids: &[u32], dists: &[f32], count: usize)
 }
 
 // A search, and its answers once more as records, best first. Its number is known from lengths and from what is only read: nothing is lent for writing
-// before it is 0.
+// before the checks are passed.
 pub fn search_records(
     n: usize,
     dim: usize,
@@ -65,7 +65,7 @@ pub fn search_records(
         dists.len(),
         records.len(),
     ) {
-        return answers::refused(refusal);
+        return answers::refused_for(refusal);
     }
     let a = search::search_accepted(asked, words, floats, ids, dists);
     let count = a.count;

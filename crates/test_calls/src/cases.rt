@@ -1,7 +1,7 @@
 // Reading a case: its numbers, and the lists after them.
 
 use definition::Params;
-use test_words::{copy_words, number_at, word_at};
+use test_words::{copy_words, copy_words_as, number_at, word_at};
 
 // The alphas that the cases name: NaN, below 1, 1, the default, to the limit, and beyond it.
 fn named_alpha(i: u32) -> f32 {
@@ -130,10 +130,10 @@ pub fn fill_lists(cases: &[u32], c: Case, lists: &mut Lists, table: &mut [u32]) 
     let list = query.wrapping_add(c.query);
     let seeds = list.wrapping_add(c.list);
     let rows = seeds.wrapping_add(c.seeds);
-    copy_words(cases, c.lists, &mut lists.vectors, low_byte);
-    copy_words(cases, query, &mut lists.query, low_byte);
-    copy_words(cases, list, &mut lists.list, |x| x);
-    copy_words(cases, seeds, &mut lists.seeds, |x| x);
-    copy_words(cases, rows, table, |x| x);
+    copy_words_as(cases, c.lists, &mut lists.vectors, low_byte);
+    copy_words_as(cases, query, &mut lists.query, low_byte);
+    copy_words(cases, list, &mut lists.list);
+    copy_words(cases, seeds, &mut lists.seeds);
+    copy_words(cases, rows, table);
     rows.wrapping_add(c.table)
 }

@@ -17,8 +17,34 @@ mod calling;
 mod cases;
 mod telling;
 
-// Gives the place of the next case.
-fn replay_case(rt: &impl Print, cases: &[u32], at: usize) -> io::Result<usize> {
+// The room as it is lent to a case, but for the table, which is filled with what the case reads.
+fn lend_anew(room: &mut Room) {
+    room.wide.fill(77);
+    room.closed.fill(77);
+    room.words.fill(77);
+    room.floats.fill(77.0);
+    room.ids.fill(77);
+    room.dists.fill(77.0);
+}
+
+// Gives the place of the next case. The lists are filled anew, and the room is lent anew.
+fn replay_case(
+    rt: &impl Print,
+    cases: &[u32],
+    at: usize,
+    lists: &mut Lists,
+    room: &mut Room,
+) -> io::Result<usize> {
+    let c = case_at(cases, at);
+    let next = fill_lists(cases, c, lists, &mut room.table);
+    lend_anew(room);
+    let a = call_case(c, lists, room);
+    tell_case(rt, a, c, room)?;
+    Ok(next)
+}
+
+// One room for all cases: a large value is written twice where it is made.
+fn replay_cases(rt: &impl Print, cases: &[u32]) -> io::Result<()> {
     let mut lists = Lists {
         vectors: [0; 4096],
         query: [0; 300],
@@ -34,17 +60,9 @@ fn replay_case(rt: &impl Print, cases: &[u32], at: usize) -> io::Result<usize> {
         ids: [77; 300],
         dists: [77.0; 300],
     };
-    let c = case_at(cases, at);
-    let next = fill_lists(cases, c, &mut lists, &mut room.table);
-    let a = call_case(c, &lists, &mut room);
-    tell_case(rt, a, c, &room)?;
-    Ok(next)
-}
-
-fn replay_cases(rt: &impl Print, cases: &[u32]) -> io::Result<()> {
     let mut at: usize = 1;
     for _ in 0..word_at(cases, 0, 0) {
-        at = replay_case(rt, cases, at)?;
+        at = replay_case(rt, cases, at, &mut lists, &mut room)?;
     }
     Ok(())
 }

@@ -95,8 +95,15 @@ pub fn number_at(words: &[u32], at: usize, far: usize) -> usize {
     word_at(words, at, far) as usize
 }
 
+// The words from `at` on, as many as `list` has room for.
+pub fn copy_words(words: &[u32], at: usize, list: &mut [u32])
+    ensures { length list.new ≡ length list.old }
+{
+    copy_words_as(words, at, list, |word| word);
+}
+
 // What the words from `at` on stand for, as many as `list` has room for.
-pub fn copy_words<T: Copy, F: Fn(u32) -> T>(words: &[u32], at: usize, list: &mut [T], of_word: F)
+pub fn copy_words_as<T: Copy, F: Fn(u32) -> T>(words: &[u32], at: usize, list: &mut [T], of_word: F)
     requires { F.IsAlwaysCallable of_word }
     ensures { length list.new ≡ length list.old }
 {

@@ -6,7 +6,7 @@ use Rattle.batch.proofs.batch.Goals as goal
 
 pub returns-in-Err : goal.returns-in-Err
 returns-in-Err c =
-    batch-refused (c.in-Err.ensures.is c.args.words.now c.args.floats.now refl refl) (number_nonzero c.in-Err.refusal) c.refused.ensures
+    batch-refused (c.in-Err.ensures.is c.args.words.now c.args.floats.now refl refl) (number_nonzero c.in-Err.refusal) c.refused_for.ensures
 
 pub slack-slack-requires : goal.slack-slack-requires
 slack-slack-requires c =

@@ -9,7 +9,7 @@ pub returns-in-Err : goal.returns-in-Err
 returns-in-Err c =
     let a = c.args in
     let numbered = c.in-Err.ensures.is a.wide.now a.closed.now a.words.now a.floats.now refl refl refl refl in
-    build_refused numbered (number_nonzero c.in-Err.refusal) c.refused.ensures
+    build_refused numbered (number_nonzero c.in-Err.refusal) c.refused_for.ensures
 
 pub slack-slack-requires : goal.slack-slack-requires
 slack-slack-requires c =

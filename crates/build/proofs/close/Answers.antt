@@ -8,7 +8,7 @@ use Rattle.build.proofs.close.Goals as goal
 pub returns-in-Err : goal.returns-in-Err
 returns-in-Err c =
     let a = c.args in
-    close-refused (c.in-Err.ensures.is a.closed.now a.words.now a.floats.now refl refl refl) (number_nonzero c.in-Err.refusal) c.refused.ensures
+    close-refused (c.in-Err.ensures.is a.closed.now a.words.now a.floats.now refl refl refl) (number_nonzero c.in-Err.refusal) c.refused_for.ensures
 
 pub slack-width-requires : goal.slack-width-requires
 slack-width-requires c =

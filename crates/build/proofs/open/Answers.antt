@@ -6,7 +6,7 @@ use Rattle.build.specs.Opened.{open_ready, open_refused, open_done_lem}
 use Rattle.build.proofs.open.Goals as goal
 
 pub returns-in-Err : goal.returns-in-Err
-returns-in-Err c = open_refused _ (c.in-Err.ensures.is c.args.wide.now refl) (number_nonzero c.in-Err.refusal) c.refused.ensures
+returns-in-Err c = open_refused _ (c.in-Err.ensures.is c.args.wide.now refl) (number_nonzero c.in-Err.refusal) c.refused_for.ensures
 
 pub slack-slack-requires : goal.slack-slack-requires
 slack-slack-requires c =

@@ -4,4 +4,4 @@ use Rattle.draws.specs.Says.{stepped}
 use Rattle.draws.proofs.kept.Goals as goal
 
 pub returns : goal.returns
-returns c = ap (stepped _) c.refused-answer.ensures
+returns c = ap (stepped _) c.refused_for-answer.ensures

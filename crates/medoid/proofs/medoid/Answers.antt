@@ -15,7 +15,7 @@ accepted call e = medoid-accepted call (sym e)
 
 pub returns-in-Err : goal.returns-in-Err
 unfolding medoid_out
-returns-in-Err c = c.refused.ensures ∙ refused_is _ _ _ (number_positive c.in-Err.refusal) (sym c.in-Err.ensures.is)
+returns-in-Err c = c.refused_for.ensures ∙ refused_is _ _ _ (number_positive c.in-Err.refusal) (sym c.in-Err.ensures.is)
 
 pub leader-id-requires : goal.leader-id-requires
 leader-id-requires c =

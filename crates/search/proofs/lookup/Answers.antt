@@ -11,11 +11,11 @@ returns-in-Err c =
     let a = c.args in
     lookup_meets _ _
     (search_refused _ _ (c.in-Err.ensures.is a.words.now a.floats.now a.ids.now a.dists.now refl refl refl refl)
-    (number_nonzero c.in-Err.refusal) _ c.refused.ensures)
+    (number_nonzero c.in-Err.refusal) _ c.refused_for.ensures)
 
-pub lookup_accepted-found-requires : goal.lookup_accepted-found-requires
+pub lookup_accepted-brought-requires : goal.lookup_accepted-brought-requires
 unfolding cleaned_call
-lookup_accepted-found-requires c =
+lookup_accepted-brought-requires c =
     let a = c.args in
     (beside-accepted _ _ _ (c.in_default.ensures.is a.words.now a.floats.now a.ids.now a.dists.now refl refl refl refl) refl).0
 
@@ -25,4 +25,4 @@ returns c =
     let a = c.args in
     lookup_meets _ _
     (search_done_lem _ _ (c.in_default.ensures.is a.words.now a.floats.now a.ids.now a.dists.now refl refl refl refl) refl _
-    (searched-same c.searched.ensures c.lookup_accepted-found.ensures))
+    (searched-same c.searched.ensures c.lookup_accepted-brought.ensures))

@@ -8,7 +8,7 @@ pub returns-in-Err : goal.returns-in-Err
 returns-in-Err c =
     let a = c.args in
     search_refused _ _ (c.in-Err.ensures.is a.words.now a.floats.now a.ids.now a.dists.now refl refl refl refl)
-    (number_nonzero c.in-Err.refusal) _ c.refused.ensures
+    (number_nonzero c.in-Err.refusal) _ c.refused_for.ensures
 
 pub search_accepted-requires : goal.search_accepted-requires
 search_accepted-requires c =

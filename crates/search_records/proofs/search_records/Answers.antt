@@ -11,7 +11,7 @@ pub returns-in-Err : goal.returns-in-Err
 returns-in-Err c =
     let a = c.args in
     records_refused _ a.records.now _ (c.in-Err.ensures.is a.words.now a.floats.now a.ids.now a.dists.now refl refl refl refl)
-    (number_nonzero c.in-Err.refusal) _ c.refused.ensures
+    (number_nonzero c.in-Err.refusal) _ c.refused_for.ensures
 
 pub search_accepted-a-requires : goal.search_accepted-a-requires
 search_accepted-a-requires c =

@@ -1,6 +1,6 @@
 -- `fill_draws` meets its contract.
 use Rattle.std.proofs.Common.{◌∙◌, length-take-le, arith}
-use Rattle.draws.specs.Pivots.{draws_start, draws_turn, draws_end}
+use Rattle.draws.specs.Pivots.{draws_start, draws_turn, draws_front}
 use Rattle.draws.proofs.pivots.fill_draws.Goals as goal
 
 pub loop-word-init : goal.loop-word-init
@@ -16,4 +16,4 @@ pub returns : goal.returns
 returns c =
     let l = c.loop-word in
     let size = l.auto.word-items ∙ length-take-le c.args.many c.args.out.now c.requires in
-    draws_end _ _ _ _ _ _ _ l.invariant c.args.out.now size (omega arith)
+    draws_front _ _ _ _ _ _ _ l.invariant c.args.out.now size (omega arith)
